@@ -1,0 +1,6 @@
+pub mod Results
+pub mod Code
+pub mod Runs
+pub mod Report
+pub mod Words
+pub mod Due
