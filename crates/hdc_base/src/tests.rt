@@ -96,13 +96,14 @@ fn a_store_of_files(rt: HostRuntime) -> Result<(), Fail> {
 #[test]
 fn a_file_of_many_reads(rt: HostRuntime) -> Result<(), Fail> {
     let path = "a_file_of_many_reads.txt";
-    let text = vec![in rt.alloc(); b'x'; 20_000]?;
+    let text = vec![in rt.alloc(); b'x'; 1_048_577]?;
     let mut store = FileStore::new(&rt);
     let mut into = Vec::new(rt.alloc());
     fs::write(&rt, path, text.as_slice())?;
-    assert_eq!(rt; store.load(path, 20_000, &mut into), Load::Whole);
+    assert_eq!(rt; store.load(path, 1_048_577, &mut into), Load::Whole);
     assert_eq!(rt; into.as_slice(), text.as_slice());
-    assert_eq!(rt; store.load(path, 19_999, &mut into), Load::Long);
+    assert_eq!(rt; store.load(path, 1_048_576, &mut into), Load::Long);
+    assert_eq!(rt; into.len(), 0);
     fs::remove_file(&rt, path)?;
     Ok(())
 }

@@ -12,7 +12,7 @@ use Rattle.hdc_value.specs.declared.outcome.TrapKind.{TrapKind}
 use Rattle.hdc_value.specs.declared.outcome.Outcome.{Outcome}
 use Rattle.hdc_value.specs.declared.outcome.Outcome.TheVariants as outcome
 use Rattle.hdc_value.specs.Arithmetic.{arith_of}
-use Rattle.hdc_tree.specs.Tree.{Tree, literal, binary}
+use Rattle.hdc_tree.specs.Tree.{Tree, literal, binary, paren}
 use Rattle.hdc_tree.specs.Meaning.{at_operator, apply, eval, meaning}
 use Rattle.hdc_code.specs.declared.instr.Instr.{Instr}
 use Rattle.hdc_code.specs.declared.instr.Instr.TheVariants as instr
@@ -110,6 +110,7 @@ exp_path (binary op at a b) code place stack ticks has =
     let whole = binary_path code op at place (place + length ca) (place + length ca + length cb) stack ticks (eval a) (eval b) first (λ v. exp_path b code (place + length ca) (v ∷ stack) ticks (has_front code (place + length ca) cb prim back)) last.0 in
     let size : place + length ca + length cb + 1 ≡ place + length (exp_code (binary op at a b)) = omega (arith, length-append ca (cb ++ prim), length-append cb prim) in
     subst (λ n. Path code (running_at place stack ticks) (after (apply op at (eval a) (eval b)) n stack ticks)) size whole
+exp_path (paren o c e) code place stack ticks has = exp_path e code place stack ticks has
 
 -- the last instruction ends with the value
 ret_path : (code : List Instr) (place : ℕ) (o : Outcome) (ticks : ℕ) → slice_get code place ≡ Some instr.Ret → Path code (after o place [] ticks) (ended_with o ticks)

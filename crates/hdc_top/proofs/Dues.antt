@@ -7,7 +7,7 @@ use Rattle.hdc_value.specs.declared.outcome.Outcome.{Outcome}
 use Rattle.hdc_value.specs.declared.outcome.Outcome.TheVariants as outcome
 use Rattle.hdc_value.specs.Answer.{Answer}
 use Rattle.hdc_tree.specs.Tree.{Tree}
-use Rattle.hdc_tree.specs.Program.{IsProgram}
+use Rattle.hdc_tree.specs.Program.{IsProgram, SpellsNone}
 use Rattle.hdc_tree.specs.Meaning.{eval, meaning}
 use Rattle.hdc_tree.proofs.Programs.{same_tree}
 use Rattle.hdc_code.specs.declared.instr.Instr.{Instr}
@@ -16,7 +16,7 @@ use Rattle.hdc_top.specs.declared.job.Due.{Due}
 use Rattle.hdc_top.specs.Code.{CarriesMeaning}
 use Rattle.hdc_top.specs.Report.{run_text, stop_text}
 use Rattle.hdc_top.specs.Words.{job_of, usage_text}
-use Rattle.hdc_top.specs.Due.{most_bytes, budget, too_long, status_of, IsDueFor, long, refused, ran, IsDue, usage, job, IsTold, IsDueFrom}
+use Rattle.hdc_top.specs.Due.{most_bytes, budget, too_long, status_of, IsDueFor, long, refused, ran, IsDue, usage, job, IsTold, IsDueFrom, IsFileText}
 
 -- a due status is none of the three that have no text
 pub record IsWritten (status : ℕ) : Type 0 where
@@ -111,3 +111,63 @@ due_once words text _ _ (usage none) _ _ (usage other) = (refl, refl)
 due_once words text _ _ (usage none) t c (job file _ _ e due) = let clash : ◌≡◌ {A = Option (List ℕ)} None (Some file) = sym none ∙ e in cc
 due_once words text s b (job file _ _ e due) _ _ (usage none) = let clash : ◌≡◌ {A = Option (List ℕ)} None (Some file) = sym none ∙ e in cc
 due_once words text s b (job file _ _ e due) t c (job other _ _ f again) = text_once text s b due t c again
+
+-- what is due for the words of a job is due for its text
+job_due : (words : List (List ℕ)) (text file : List ℕ) (status : ℕ) (bytes : List ℕ) → job_of words ≡ Some file → IsDue words text status bytes → IsDueFor text status bytes
+job_due words text file _ _ e (usage none) = let clash : ◌≡◌ {A = Option (List ℕ)} None (Some file) = sym none ∙ e in cc
+job_due words text file status bytes e (job other _ _ f due) = due
+
+-- the text that the store tells is the one for which something is due
+file_due : (holds : List ℕ → Option (List ℕ)) (words : List (List ℕ)) (status : ℕ) (bytes : List ℕ) (text : List ℕ) → IsDueFrom holds words status bytes → IsFileText holds words text → IsDueFor text status bytes
+file_due holds words status bytes text h f =
+    let same : h.text ≡ text = subst (λ o. IfSome o (λ told. h.text ≡ told)) f.held (h.told f.file f.job) in
+    job_due words text f.file status bytes f.job (subst (λ x. IsDue words x status bytes) same h.due)
+
+-- the statuses of the cases
+ran_apart : (o : Outcome) → (status_of o ≢ 8) × (status_of o ≢ 2) × (status_of o ≢ 1)
+ran_apart (outcome.Value v) = ((λ e. omega arith), (λ e. omega arith), (λ e. omega arith))
+ran_apart (outcome.Trap t) = ((λ e. omega arith), (λ e. omega arith), (λ e. omega arith))
+
+text_limit : (text : List ℕ) (status : ℕ) (bytes : List ℕ) → IsDueFor text status bytes → status ≡ 8 → most_bytes < length text
+text_limit text _ _ (long h) e = h
+text_limit text _ _ (refused h none) e = absurd (omega arith)
+text_limit text _ _ (ran tree a h program m) e = absurd ((ran_apart a.outcome).0 e)
+
+text_long : (text : List ℕ) (status : ℕ) (bytes : List ℕ) → IsDueFor text status bytes → most_bytes < length text → status ≡ 8
+text_long text _ _ (long h) l = refl
+text_long text _ _ (refused h none) l = absurd (omega arith)
+text_long text _ _ (ran tree a h program m) l = absurd (omega arith)
+
+text_refused : (text : List ℕ) (status : ℕ) (bytes : List ℕ) → IsDueFor text status bytes → status ≡ 1 → SpellsNone text
+text_refused text _ _ (long h) e = absurd (omega arith)
+text_refused text _ _ (refused h none) e = none
+text_refused text _ _ (ran tree a h program m) e = absurd ((ran_apart a.outcome).2 e)
+
+text_no_tree : (text : List ℕ) (status : ℕ) (bytes : List ℕ) → IsDueFor text status bytes → SpellsNone text → length text ≤ most_bytes → status ≡ 1
+text_no_tree text _ _ (long h) none l = absurd (omega arith)
+text_no_tree text _ _ (refused h other) none l = refl
+text_no_tree text _ _ (ran tree a h program m) none l = absurd (none tree program)
+
+text_job : (text : List ℕ) (status : ℕ) (bytes : List ℕ) → IsDueFor text status bytes → status ≢ 2
+text_job text _ _ (long h) = λ e. omega arith
+text_job text _ _ (refused h none) = λ e. omega arith
+text_job text _ _ (ran tree a h program m) = (ran_apart a.outcome).1
+
+words_usage : (words : List (List ℕ)) (text : List ℕ) (status : ℕ) (bytes : List ℕ) → IsDue words text status bytes → status ≡ 2 → job_of words ≡ None
+words_usage words text _ _ (usage none) e = none
+words_usage words text status bytes (job file _ _ f due) e = absurd (text_job text status bytes due e)
+
+pub due_usage : (holds : List ℕ → Option (List ℕ)) (words : List (List ℕ)) (status : ℕ) (bytes : List ℕ) → IsDueFrom holds words status bytes → status ≡ 2 → job_of words ≡ None
+due_usage holds words status bytes h e = words_usage words h.text status bytes h.due e
+
+pub due_limit : (holds : List ℕ → Option (List ℕ)) (words : List (List ℕ)) (status : ℕ) (bytes : List ℕ) → IsDueFrom holds words status bytes → status ≡ 8 → (text : List ℕ) → IsFileText holds words text → most_bytes < length text
+due_limit holds words status bytes h e text f = text_limit text status bytes (file_due holds words status bytes text h f) e
+
+pub due_long : (holds : List ℕ → Option (List ℕ)) (words : List (List ℕ)) (status : ℕ) (bytes : List ℕ) → IsDueFrom holds words status bytes → (text : List ℕ) → IsFileText holds words text → most_bytes < length text → status ≡ 8
+due_long holds words status bytes h text f l = text_long text status bytes (file_due holds words status bytes text h f) l
+
+pub due_refused : (holds : List ℕ → Option (List ℕ)) (words : List (List ℕ)) (status : ℕ) (bytes : List ℕ) → IsDueFrom holds words status bytes → status ≡ 1 → (text : List ℕ) → IsFileText holds words text → SpellsNone text
+due_refused holds words status bytes h e text f = text_refused text status bytes (file_due holds words status bytes text h f) e
+
+pub due_no_tree : (holds : List ℕ → Option (List ℕ)) (words : List (List ℕ)) (status : ℕ) (bytes : List ℕ) → IsDueFrom holds words status bytes → (text : List ℕ) → IsFileText holds words text → SpellsNone text → length text ≤ most_bytes → status ≡ 1
+due_no_tree holds words status bytes h text f none l = text_no_tree text status bytes (file_due holds words status bytes text h f) none l

@@ -3,7 +3,7 @@ use Rattle.std.specs.Prelude.{ℕ, List, [], ◌∷◌, ◌++◌}
 use Rattle.hdc_base.specs.declared.place.At.{At}
 use Rattle.hdc_base.specs.declared.place.Place.{Place}
 use Rattle.hdc_base.specs.declared.place.Src.TheVariants.{Program}
-use Rattle.hdc_tree.specs.Tree.{Tree, literal, binary}
+use Rattle.hdc_tree.specs.Tree.{Tree, literal, binary, paren}
 use Rattle.hdc_tree.specs.Meaning.{meaning}
 use Rattle.hdc_code.specs.declared.instr.Instr.{Instr}
 use Rattle.hdc_code.specs.declared.instr.Instr.TheVariants as instr
@@ -22,3 +22,4 @@ in_program at = record { src = Program; at = at }
 abbrev pub exp_code : Tree → List Instr
 exp_code (literal at value) = instr.Int value ∷ []
 exp_code (binary op at a b) = exp_code a ++ (exp_code b ++ instr.Prim op (in_program at) ∷ [])
+exp_code (paren o c e) = exp_code e

@@ -11,7 +11,7 @@ use Rattle.hdc_value.specs.declared.outcome.Outcome.{Outcome}
 use Rattle.hdc_value.specs.declared.outcome.Outcome.TheVariants as outcome
 use Rattle.hdc_value.specs.Answer.{Answer}
 use Rattle.hdc_tree.specs.Tree.{Tree}
-use Rattle.hdc_tree.specs.Program.{IsProgram}
+use Rattle.hdc_tree.specs.Program.{IsProgram, SpellsNone}
 use Rattle.hdc_tree.specs.Meaning.{meaning}
 use Rattle.hdc_top.specs.Report.{run_text, stop_text}
 use Rattle.hdc_top.specs.Words.{job_of, usage_text}
@@ -39,7 +39,7 @@ status_of (outcome.Trap t) = 3
 -- the status and the bytes that are due for a text
 pub data IsDueFor (text : List ℕ) : ℕ → List ℕ → Type 0 where
   long : most_bytes < length text → IsDueFor text 8 (stop_text too_long)
-  refused : length text ≤ most_bytes → ((tree : Tree) → IsProgram text tree → ⊥) → IsDueFor text 1 (stop_text not_yet)
+  refused : length text ≤ most_bytes → SpellsNone text → IsDueFor text 1 (stop_text not_yet)
   ran : (tree : Tree) (answer : Answer) → length text ≤ most_bytes → IsProgram text tree → meaning tree budget ≡ Some answer → IsDueFor text (status_of answer.outcome) (run_text answer.outcome answer.unfoldings)
 
 -- the same for words, where the text is that of their file
@@ -75,3 +75,9 @@ pub record FileFails (before after : List ℕ → ℕ) (words : List (List ℕ))
   pub file : List ℕ
   pub job : job_of words ≡ Some file
   pub rose : Rose (before file) (after file)
+
+-- the store tells this text of the job's file
+pub record IsFileText (holds : List ℕ → Option (List ℕ)) (words : List (List ℕ)) (text : List ℕ) : Type 0 where
+  pub file : List ℕ
+  pub job : job_of words ≡ Some file
+  pub held : holds file ≡ Some text

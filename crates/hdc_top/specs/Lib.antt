@@ -1,4 +1,5 @@
 pub mod Results
+pub mod Parsing
 pub mod Code
 pub mod Runs
 pub mod Report

@@ -2,13 +2,11 @@
 use Rattle.std.specs.Prelude.{◌≡◌, ℕ, List, Option, Some, None, Result, Ok, Err}
 use Rattle.std.specs.declared.alloc.Global.{Global}
 use Rattle.std.specs.Prelude.{Vec}
-use Rattle.hdc_base.specs.declared.place.At.{At}
 use Rattle.hdc_tree.specs.declared.exp.Exp.{Exp}
 use Rattle.hdc_tree.specs.declared.token.Token.{Token}
 use Rattle.hdc_tree.specs.Tree.{Tree, tree_of}
 use Rattle.hdc_tree.specs.Lexemes.{Lexes}
-use Rattle.hdc_tree.specs.Program.{IsProgram}
-use Rattle.hdc_tree.specs.Reading.{Waiting}
+use Rattle.hdc_tree.specs.Program.{IsProgram, SpellsNone}
 use Rattle.hdc_code.specs.declared.instr.Instr.{Instr}
 use Rattle.hdc_top.specs.Code.{CarriesMeaning}
 use Rattle.hdc_top.specs.declared.reader.ReadStop.{ReadStop}
@@ -29,16 +27,11 @@ Reads (Err stop.Want) read = Unit {0}
 -- the text spells this tree, or it spells none
 abbrev pub ReadsText : List ℕ → Result Exp ReadStop → Type 0
 ReadsText text (Ok e) = IsProgram text (tree_of e)
-ReadsText text (Err stop.NotYet) = (tree : Tree) → IsProgram text tree → ⊥
+ReadsText text (Err stop.NotYet) = SpellsNone text
 ReadsText text (Err stop.Want) = Unit {0}
-
--- a sum that waits, without its boxes
-abbrev pub waiting_of : Option (Exp × At) → Waiting
-waiting_of None = None
-waiting_of (Some (sum, at)) = Some (tree_of sum, at)
 
 -- the code carries the meaning of the tree that the text spells, or it spells none
 abbrev pub Compiles : List ℕ → Result (List Instr) ReadStop → Type 0
 Compiles text (Ok code) = (tree : Tree) × IsProgram text tree × CarriesMeaning code tree
-Compiles text (Err stop.NotYet) = (tree : Tree) → IsProgram text tree → ⊥
+Compiles text (Err stop.NotYet) = SpellsNone text
 Compiles text (Err stop.Want) = Unit {0}

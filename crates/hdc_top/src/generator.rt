@@ -35,6 +35,7 @@ fn emit(code: &mut Vec<Instr>, tree: &Exp) -> Result<(), AllocError>
             };
             put(code, Instr::Prim(*op, place))
         }
+        Exp::Paren(_, _, inner) => emit(code, inner),
     }
 }
 

@@ -1,11 +1,12 @@
 //! The top call.
 
-ghost use Rattle.std.specs.Prelude.{◌≡◌, ◌≢◌, ◌≤◌, map, length, string_bytes, IfOk};
+ghost use Rattle.std.specs.Prelude.{◌≡◌, ◌≢◌, ◌≤◌, ◌<◌, ℕ, List, None, map, length, string_bytes, IfOk};
 ghost use Rattle.hdc_base.specs.Counts.{Rose};
+ghost use Rattle.hdc_tree.specs.Program.{SpellsNone};
 ghost use Rattle.hdc_top.specs.declared.job.Silence.TheVariants as silence;
 ghost use Rattle.hdc_top.specs.Report.{run_text, stop_text};
-ghost use Rattle.hdc_top.specs.Words.{usage_text};
-ghost use Rattle.hdc_top.specs.Due.{status_of, not_yet, too_long, IsDueFor, IsDueFrom, Delivers, DeliversPrefix, FileFails};
+ghost use Rattle.hdc_top.specs.Words.{usage_text, job_of};
+ghost use Rattle.hdc_top.specs.Due.{status_of, not_yet, too_long, IsDueFor, IsDueFrom, Delivers, DeliversPrefix, FileFails, IsFileText, most_bytes};
 
 use crate::compiler::compile;
 use crate::machine::{Record, run};
@@ -56,14 +57,25 @@ pub fn serve<S: Store, K: Sink>(alloc: Global, words: &[String], store: &mut S, 
     // What is written is what is due, for a text that is the file's where the store tells that.
     ensures delivers { result ≢ NOT_READ → result ≢ NOT_WRITTEN → result ≢ WANT → Delivers (S.holds store.old) (map string_bytes words.now) result (K.taken out.old) (K.taken out.new) }
 
-    // The other statuses have their causes, but for want of memory.
-    ensures not_read { result ≡ NOT_READ → FileFails (S.faults store.old) (S.faults store.new) (map string_bytes words.now) }
-    ensures not_written { result ≡ NOT_WRITTEN → Rose (K.faults out.old) (K.faults out.new) }
-
     // With 5 and 7 the sink is as it was, and with 6 it took a part of what is due.
     ensures unread { result ≡ NOT_READ → out.new ≡ out.old }
     ensures want { result ≡ WANT → out.new ≡ out.old }
     ensures partly { result ≡ NOT_WRITTEN → DeliversPrefix (S.holds store.old) (map string_bytes words.now) (K.taken out.old) (K.taken out.new) }
+
+    // 5 comes only where the file's faults rose, and 6 only where the sink's did. So where neither
+    // did, what is due is written, unless memory is wanting.
+    ensures not_read { result ≡ NOT_READ → FileFails (S.faults store.old) (S.faults store.new) (map string_bytes words.now) }
+    ensures not_written { result ≡ NOT_WRITTEN → Rose (K.faults out.old) (K.faults out.new) }
+    ensures complete { (FileFails (S.faults store.old) (S.faults store.new) (map string_bytes words.now) → ⊥) → (Rose (K.faults out.old) (K.faults out.new) → ⊥) → result ≢ WANT → Delivers (S.holds store.old) (map string_bytes words.now) result (K.taken out.old) (K.taken out.new) }
+
+    // 2 comes exactly where the words name no job, 8 where the file is too long, and 1 where its
+    // text spells no tree.
+    ensures usage { result ≡ USAGE → job_of (map string_bytes words.now) ≡ None }
+    ensures no_job { job_of (map string_bytes words.now) ≡ None → result ≢ NOT_WRITTEN → result ≢ WANT → result ≡ USAGE }
+    ensures limit { result ≡ LIMIT → (text : List ℕ) → IsFileText (S.holds store.old) (map string_bytes words.now) text → most_bytes < length text }
+    ensures long { (text : List ℕ) → IsFileText (S.holds store.old) (map string_bytes words.now) text → most_bytes < length text → result ≢ NOT_READ → result ≢ NOT_WRITTEN → result ≢ WANT → result ≡ LIMIT }
+    ensures refused { result ≡ REFUSED → (text : List ℕ) → IsFileText (S.holds store.old) (map string_bytes words.now) text → SpellsNone text }
+    ensures no_tree { (text : List ℕ) → IsFileText (S.holds store.old) (map string_bytes words.now) text → SpellsNone text → length text ≤ most_bytes → result ≢ NOT_READ → result ≢ NOT_WRITTEN → result ≢ WANT → result ≡ REFUSED }
 {
     match answer(alloc, words, store) {
         Ok(due) => match out.put(due.text.as_slice()) {

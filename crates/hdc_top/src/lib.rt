@@ -3,7 +3,7 @@
 //! `serve` reads the words, loads the file, reads its text as a tree, makes code of the tree, runs
 //! the code on the machine and writes the report by one put. Its contract says what is due for the
 //! words and the text, in terms of the tree's spelling and meaning alone (`specs/Due.antt`), and
-//! gives each other answer its cause.
+//! gives each other answer but want of memory its cause.
 #![tactic(auto)]
 
 mod compiler;

@@ -11,9 +11,9 @@ use Rattle.std.proofs.lemmas.Option.{some_pair_parts}
 use Rattle.std.proofs.lemmas.List.Folds.{length-prefix_len}
 use Rattle.std.proofs.lemmas.List.Sums.{prefix_len-le-length}
 use Rattle.hdc_base.specs.declared.place.At.{At}
-use Rattle.hdc_value.specs.declared.arithmetic.Op.TheVariants.{Add, Mul}
+use Rattle.hdc_value.specs.declared.arithmetic.Op.TheVariants.{Add, Sub, Mul}
 use Rattle.hdc_tree.specs.declared.token.Word.{Word}
-use Rattle.hdc_tree.specs.declared.token.Word.TheVariants.{Main, Equal, Num, Operator}
+use Rattle.hdc_tree.specs.declared.token.Word.TheVariants.{Main, Equal, Num, Operator, Open, Close}
 use Rattle.hdc_tree.specs.declared.token.Token.{Token}
 use Rattle.hdc_tree.specs.Lexemes.{is_digit, number_after, IsDecimal, IsWord, NoDigitFirst, IsLongest, in_line, Begins, is_blank, Lexes}
 use Rattle.hdc_tree.specs.Reading.{is_space, space_count, after_spaces, literal_word, word_at, Continues}
@@ -101,10 +101,13 @@ blank_no_word b bs h = by_test (b == 32) refl
 literal_first : (d : ℕ) (bs : List ℕ) → is_digit d ≡ true → word_at (d ∷ bs) ≡ literal_word (take_while is_digit (d ∷ bs))
 literal_first d bs h =
     let within = digit_within d h in
-    let a : d ≢ 61 = λ e. omega arith in
-    let b : d ≢ 43 = λ e. omega arith in
-    let c : d ≢ 42 = λ e. omega arith in
-    rw (not_that d 61 a, not_that d 43 b, not_that d 42 c, h) refl
+    let equal : d ≢ 61 = λ e. omega arith in
+    let plus : d ≢ 43 = λ e. omega arith in
+    let minus : d ≢ 45 = λ e. omega arith in
+    let times : d ≢ 42 = λ e. omega arith in
+    let open_sign : d ≢ 40 = λ e. omega arith in
+    let close_sign : d ≢ 41 = λ e. omega arith in
+    rw (not_that d 61 equal, not_that d 43 plus, not_that d 45 minus, not_that d 42 times, not_that d 40 open_sign, not_that d 41 close_sign, h) refl
 
 take_digits : (digits rest : List ℕ) → list_all is_digit digits ≡ true → NoDigitFirst rest → take_while is_digit (digits ++ rest) ≡ digits
 take_digits digits rest all stops = ap (λ n. take n (digits ++ rest)) (run_is is_digit digits rest all (no_digit_run rest stops)) ∙ take-append_seam digits rest
@@ -120,6 +123,9 @@ word_found Main bytes rest h longest = subst (λ w. word_at (w ++ rest) ≡ Some
 word_found Equal bytes rest h longest = subst (λ w. word_at (w ++ rest) ≡ Some (Equal, length w)) (sym h) refl
 word_found (Operator Add) bytes rest h longest = subst (λ w. word_at (w ++ rest) ≡ Some (Operator Add, length w)) (sym h) refl
 word_found (Operator Mul) bytes rest h longest = subst (λ w. word_at (w ++ rest) ≡ Some (Operator Mul, length w)) (sym h) refl
+word_found (Operator Sub) bytes rest h longest = subst (λ w. word_at (w ++ rest) ≡ Some (Operator Sub, length w)) (sym h) refl
+word_found Open bytes rest h longest = subst (λ w. word_at (w ++ rest) ≡ Some (Open, length w)) (sym h) refl
+word_found Close bytes rest h longest = subst (λ w. word_at (w ++ rest) ≡ Some (Close, length w)) (sym h) refl
 word_found (Num value) bytes rest h longest =
     digits_found bytes h.3.some h.3.digits ∙ ap literal_word (take_digits bytes rest h.3.digits longest) ∙ literal_found h.0 bytes h.2 h.3.value ∙ ap (λ v. Some (Num v, length bytes)) (sym h.1)
   where
@@ -132,6 +138,9 @@ no_space Main bytes rest h = subst (λ w. prefix_len is_space (w ++ rest) ≡ 0)
 no_space Equal bytes rest h = subst (λ w. prefix_len is_space (w ++ rest) ≡ 0) (sym h) refl
 no_space (Operator Add) bytes rest h = subst (λ w. prefix_len is_space (w ++ rest) ≡ 0) (sym h) refl
 no_space (Operator Mul) bytes rest h = subst (λ w. prefix_len is_space (w ++ rest) ≡ 0) (sym h) refl
+no_space (Operator Sub) bytes rest h = subst (λ w. prefix_len is_space (w ++ rest) ≡ 0) (sym h) refl
+no_space Open bytes rest h = subst (λ w. prefix_len is_space (w ++ rest) ≡ 0) (sym h) refl
+no_space Close bytes rest h = subst (λ w. prefix_len is_space (w ++ rest) ≡ 0) (sym h) refl
 no_space (Num value) bytes rest h = digits_first bytes h.3.some h.3.digits
   where
     digits_first : (ds : List ℕ) → 0 < length ds → list_all is_digit ds ≡ true → prefix_len is_space (ds ++ rest) ≡ 0
@@ -210,9 +219,12 @@ word_in [] = tt
 word_in (b ∷ bs) =
     by_test _ (b == 61) _ _ (λ h. sign_found b bs Equal (ap (λ c. c ∷ []) (eqb-true b 61 h)) tt)
     (λ _. by_test _ (b == 43) _ _ (λ h. sign_found b bs (Operator Add) (ap (λ c. c ∷ []) (eqb-true b 43 h)) tt)
+    (λ _. by_test _ (b == 45) _ _ (λ h. sign_found b bs (Operator Sub) (ap (λ c. c ∷ []) (eqb-true b 45 h)) tt)
     (λ _. by_test _ (b == 42) _ _ (λ h. sign_found b bs (Operator Mul) (ap (λ c. c ∷ []) (eqb-true b 42 h)) tt)
+    (λ _. by_test _ (b == 40) _ _ (λ h. sign_found b bs Open (ap (λ c. c ∷ []) (eqb-true b 40 h)) tt)
+    (λ _. by_test _ (b == 41) _ _ (λ h. sign_found b bs Close (ap (λ c. c ∷ []) (eqb-true b 41 h)) tt)
     (λ _. by_test _ (is_digit b) _ _ (λ h. digits_found (b ∷ bs) (one_digit b bs h))
-    (λ _. by_test _ (starts_with nat_eq (b ∷ bs) (codes "main")) _ _ (λ h. main_found (b ∷ bs) h) (λ _. tt)))))
+    (λ _. by_test _ (starts_with nat_eq (b ∷ bs) (codes "main")) _ _ (λ h. main_found (b ∷ bs) h) (λ _. tt))))))))
 
 pub word_is : (text : List ℕ) (word : Word) (size : ℕ) → word_at text ≡ Some (word, size) → Found text word size
 word_is text word size h = subst (FoundIn text) h (word_in text)

@@ -1,9 +1,9 @@
 -- The lexemes of a text of one line.
 use Rattle.std.specs.Prelude.{◌≡◌, ℕ, ◌+◌, ◌-◌, ◌*◌, ◌<◌, ◌^◌, ◌++◌, List, [], ◌∷◌, length, codes, replicate, Bool, false, ◌&&◌, ◌||◌, ◌==◌, nat_le, IsTrue, pos}
 use Rattle.std.specs.List.{list_all}
-use Rattle.hdc_value.specs.declared.arithmetic.Op.TheVariants.{Add, Mul}
+use Rattle.hdc_value.specs.declared.arithmetic.Op.TheVariants.{Add, Sub, Mul}
 use Rattle.hdc_tree.specs.declared.token.Word.{Word}
-use Rattle.hdc_tree.specs.declared.token.Word.TheVariants.{Main, Equal, Num, Operator}
+use Rattle.hdc_tree.specs.declared.token.Word.TheVariants.{Main, Equal, Num, Operator, Open, Close}
 use Rattle.hdc_tree.specs.declared.token.Token.{Token}
 use Rattle.hdc_base.specs.declared.place.At.{At}
 
@@ -27,7 +27,10 @@ abbrev pub IsWord : Word → List ℕ → Type 0
 IsWord Main bytes = bytes ≡ codes "main"
 IsWord Equal bytes = bytes ≡ codes "="
 IsWord (Operator Add) bytes = bytes ≡ codes "+"
+IsWord (Operator Sub) bytes = bytes ≡ codes "-"
 IsWord (Operator Mul) bytes = bytes ≡ codes "*"
+IsWord Open bytes = bytes ≡ codes "("
+IsWord Close bytes = bytes ≡ codes ")"
 IsWord (Num value) bytes = (n : ℕ) × (value ≡ pos n) × (n < 2 ^ 63) × IsDecimal bytes n
 
 -- the text does not begin with a digit

@@ -9,7 +9,7 @@ use Rattle.hdc_value.specs.declared.outcome.Outcome.{Outcome}
 use Rattle.hdc_value.specs.declared.outcome.Outcome.TheVariants as outcome
 use Rattle.hdc_value.specs.Arithmetic.{arith_of}
 use Rattle.hdc_value.specs.Answer.{Answer}
-use Rattle.hdc_tree.specs.Tree.{Tree, literal, binary}
+use Rattle.hdc_tree.specs.Tree.{Tree, literal, binary, paren}
 
 -- a result as an outcome; a trap stands at the operator
 abbrev pub at_operator : At → Result ℤ TrapKind → Outcome
@@ -26,6 +26,7 @@ apply op at (outcome.Value (Int a)) (outcome.Value (Int b)) = at_operator at (ar
 abbrev pub eval : Tree → Outcome
 eval (literal at value) = outcome.Value (Int value)
 eval (binary op at a b) = apply op at (eval a) (eval b)
+eval (paren o c e) = eval e
 
 -- the program with this tree, at a budget of unfoldings: the use of main is one, and none is left for it at 0
 abbrev pub meaning : Tree → ℕ → Option Answer

@@ -1,15 +1,16 @@
 -- Reading as functions on lists, which the laws in proofs/ tie to the definitions.
 use Rattle.std.specs.Prelude.{◌≡◌, ℕ, ◌^◌, List, [], ◌∷◌, length, codes, Option, Some, None, Bool, true, false, ◌==◌, nat_eq, nat_lt, nat_le, if◌then◌else◌, drop, pos}
 use Rattle.std.specs.List.{starts_with, prefix_len, take_while, count_by}
+use Rattle.std.specs.Option.{option_and_then}
 use Rattle.hdc_base.specs.declared.place.At.{At}
 use Rattle.hdc_value.specs.declared.arithmetic.Op.{Op}
-use Rattle.hdc_value.specs.declared.arithmetic.Op.TheVariants.{Add, Mul}
+use Rattle.hdc_value.specs.declared.arithmetic.Op.TheVariants.{Add, Sub, Mul}
 use Rattle.hdc_tree.specs.declared.token.Word.{Word}
-use Rattle.hdc_tree.specs.declared.token.Word.TheVariants.{Main, Equal, Num, Operator}
+use Rattle.hdc_tree.specs.declared.token.Word.TheVariants.{Main, Equal, Num, Operator, Open, Close}
 use Rattle.hdc_tree.specs.declared.token.Token.{Token}
-use Rattle.hdc_tree.specs.Tree.{Tree, literal, binary}
+use Rattle.hdc_tree.specs.Tree.{Tree, literal, binary, paren}
 use Rattle.hdc_tree.specs.Lexemes.{is_digit, number_after, Lexes}
-use Rattle.hdc_tree.specs.Program.{most_operators}
+use Rattle.hdc_tree.specs.Program.{most_operators, most_open}
 
 abbrev pub is_space : ℕ → Bool
 is_space b = b == 32
@@ -29,67 +30,114 @@ literal_word digits = if nat_lt (number_after 0 digits) (2 ^ 63) then Some (Num 
 -- the longest word that begins the text, with the number of its bytes
 abbrev pub word_at : List ℕ → Option (Word × ℕ)
 word_at [] = None
-word_at (b ∷ bs) = if b == 61 then Some (Equal, 1) else (if b == 43 then Some (Operator Add, 1) else (if b == 42 then Some (Operator Mul, 1) else (if is_digit b then literal_word (take_while is_digit (b ∷ bs)) else (if starts_with nat_eq (b ∷ bs) (codes "main") then Some (Main, 4) else None))))
+word_at (b ∷ bs) = if b == 61 then Some (Equal, 1) else (if b == 43 then Some (Operator Add, 1) else (if b == 45 then Some (Operator Sub, 1) else (if b == 42 then Some (Operator Mul, 1) else (if b == 40 then Some (Open, 1) else (if b == 41 then Some (Close, 1) else (if is_digit b then literal_word (take_while is_digit (b ∷ bs)) else (if starts_with nat_eq (b ∷ bs) (codes "main") then Some (Main, 4) else None)))))))
 
 -- the text begins with the token, whichever tokens it has, and goes on so
 pub record Continues (col : ℕ) (text : List ℕ) (token : Token) (next_col : ℕ) (rest : List ℕ) : Type 0 where
   pub forward : (tokens : List Token) → Lexes next_col rest tokens → Lexes col text (token ∷ tokens)
   pub back : (tokens : List Token) → Lexes col text tokens → (others : List Token) × (tokens ≡ token ∷ others) × Lexes next_col rest others
 
--- goes on with an operator, or with a literal
-abbrev pub with_operator : {A : Type 0} → Word → (Op → Option A) → Option A
-with_operator (Operator op) go = go op
-with_operator Main go = None
-with_operator Equal go = None
-with_operator (Num value) go = None
-
-abbrev pub with_literal : {A : Type 0} → Token → (Tree → Option A) → Option A
-with_literal token go = elim token.word [ Num value ↦ go (literal token.at value) | Main ↦ None | Equal ↦ None | Operator op ↦ None ]
-
--- a sum that waits for its right operand, with the place of its operator
+-- a sum that waits for its right operand, with its operator and the operator's place
 abbrev pub Waiting : Type 0
-Waiting = Option (Tree × At)
+Waiting = Option (Tree × Op × At)
 
 -- the sum with its right operand
 abbrev pub closed : Waiting → Tree → Tree
 closed None product = product
-closed (Some (sum, at)) product = binary Add at sum product
+closed (Some (sum, op, at)) product = binary op at sum product
 
--- the sum that waits, and the product so far, behind one more operator and operand
-abbrev pub sum_after : Op → At → Waiting → Tree → Waiting
-sum_after Add at sum product = Some (closed sum product, at)
-sum_after Mul at sum product = sum
+-- what an operand follows: the beginning of an expression, or an operator behind a sum that waits and a product
+pub data Pending : Type 0 where
+  beginning : Pending
+  behind : (sum : Waiting) (product : Tree) (op : Op) (at : At) → Pending
 
-abbrev pub product_after : Op → At → Tree → Tree → Tree
-product_after Add at product operand = operand
-product_after Mul at product operand = binary Mul at product operand
+-- the sum that waits, and the product so far, with one more operand
+abbrev pub sum_after : Pending → Waiting
+sum_after beginning = None
+sum_after (behind sum product Add at) = Some (closed sum product, Add, at)
+sum_after (behind sum product Sub at) = Some (closed sum product, Sub, at)
+sum_after (behind sum product Mul at) = sum
 
--- the tree of the rest of an expression behind a sum that waits and a product
-abbrev pub chain : Waiting → Tree → List Token → Option Tree
-chain sum product [] = Some (closed sum product)
-chain sum product (operator ∷ []) = None
-chain sum product (operator ∷ operand ∷ rest) =
-    with_operator operator.word (λ op. with_literal operand (λ e. chain (sum_after op operator.at sum product) (product_after op operator.at product e) rest))
+abbrev pub product_after : Pending → Tree → Tree
+product_after beginning operand = operand
+product_after (behind sum product Add at) operand = operand
+product_after (behind sum product Sub at) operand = operand
+product_after (behind sum product Mul at) operand = binary Mul at product operand
+
+-- an open parenthesis: its place, and what it follows
+pub record Level : Type 0 where
+  pub open_at : At
+  pub pending : Pending
+
+-- the parentheses that are open, the innermost first, and what is read behind them: nothing of an operand yet, or a sum
+-- that waits and a product
+pub data Progress : Type 0 where
+  wants : (levels : List Level) (pending : Pending) → Progress
+  has : (levels : List Level) (sum : Waiting) (product : Tree) → Progress
+
+abbrev pub with_operand : List Level → Pending → Tree → Progress
+with_operand levels pending operand = has levels (sum_after pending) (product_after pending operand)
+
+-- a closing parenthesis, where one is open
+abbrev pub shut : List Level → Waiting → Tree → At → Option Progress
+shut [] sum product at = None
+shut (level ∷ levels) sum product at = Some (with_operand levels level.pending (paren level.open_at at (closed sum product)))
+
+-- an opening parenthesis, where no more are open than may be
+abbrev pub opened : List Level → Pending → At → Option Progress
+opened levels pending at = if nat_lt (length levels) most_open then Some (wants (record { open_at = at; pending = pending } ∷ levels) beginning) else None
+
+-- one token further
+abbrev pub advance_word : Progress → At → Word → Option Progress
+advance_word (wants levels pending) at (Num value) = Some (with_operand levels pending (literal at value))
+advance_word (wants levels pending) at Open = opened levels pending at
+advance_word (wants levels pending) at Main = None
+advance_word (wants levels pending) at Equal = None
+advance_word (wants levels pending) at (Operator op) = None
+advance_word (wants levels pending) at Close = None
+advance_word (has levels sum product) at (Operator op) = Some (wants levels (behind sum product op at))
+advance_word (has levels sum product) at Close = shut levels sum product at
+advance_word (has levels sum product) at Main = None
+advance_word (has levels sum product) at Equal = None
+advance_word (has levels sum product) at (Num value) = None
+advance_word (has levels sum product) at Open = None
+
+abbrev pub advance : Progress → Token → Option Progress
+advance progress token = advance_word progress token.at token.word
+
+-- the tree at the end, where no parenthesis is open and no operand is wanted
+abbrev pub finish : Progress → Option Tree
+finish (wants levels pending) = None
+finish (has [] sum product) = Some (closed sum product)
+finish (has (level ∷ levels) sum product) = None
+
+-- the tree behind all tokens
+abbrev pub read_on : Progress → List Token → Option Tree
+read_on progress [] = finish progress
+read_on progress (token ∷ tokens) = option_and_then (λ next. read_on next tokens) (advance progress token)
 
 -- the tree of an expression
 abbrev pub expression : List Token → Option Tree
-expression [] = None
-expression (operand ∷ rest) = with_literal operand (λ e. chain None e rest)
+expression tokens = read_on (wants [] beginning) tokens
 
 abbrev pub is_main : Word → Bool
 is_main Main = true
 is_main Equal = false
 is_main (Num value) = false
 is_main (Operator op) = false
+is_main Open = false
+is_main Close = false
 
 abbrev pub is_equal_sign : Word → Bool
 is_equal_sign Equal = true
 is_equal_sign Main = false
 is_equal_sign (Num value) = false
 is_equal_sign (Operator op) = false
+is_equal_sign Open = false
+is_equal_sign Close = false
 
 abbrev pub is_operator : Token → Bool
-is_operator token = elim token.word [ Operator op ↦ true | Main ↦ false | Equal ↦ false | Num value ↦ false ]
+is_operator token = elim token.word [ Operator op ↦ true | Main ↦ false | Equal ↦ false | Num value ↦ false | Open ↦ false | Close ↦ false ]
 
 -- the tree of the expression behind main and the sign
 abbrev pub binding_of : List Token → Option Tree

@@ -14,6 +14,10 @@ pub enum Word {
     Num(i64),
     /// An operator.
     Operator(Op),
+    /// The sign `(`.
+    Open,
+    /// The sign `)`.
+    Close,
 }
 
 /// A token, with the place of its first byte.

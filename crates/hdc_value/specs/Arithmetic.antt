@@ -1,7 +1,7 @@
 -- Arithmetic on integers of 64 bits.
-use Rattle.std.specs.Prelude.{◌^◌, Bool, nat_lt, if◌then◌else◌, Result, Ok, Err, ℤ, pos, negsuc, ◌+ℤ◌, ◌*ℤ◌}
+use Rattle.std.specs.Prelude.{◌^◌, Bool, nat_lt, if◌then◌else◌, Result, Ok, Err, ℤ, pos, negsuc, ◌+ℤ◌, ◌-ℤ◌, ◌*ℤ◌}
 use Rattle.hdc_value.specs.declared.arithmetic.Op.{Op}
-use Rattle.hdc_value.specs.declared.arithmetic.Op.TheVariants.{Add, Mul}
+use Rattle.hdc_value.specs.declared.arithmetic.Op.TheVariants.{Add, Sub, Mul}
 use Rattle.hdc_value.specs.declared.outcome.TrapKind.{TrapKind}
 use Rattle.hdc_value.specs.declared.outcome.TrapKind.TheVariants.{Overflow}
 
@@ -13,6 +13,7 @@ is_in_range (negsuc n) = nat_lt n (2 ^ 63)
 -- the result of an operator among all integers
 abbrev pub exact : Op → ℤ → ℤ → ℤ
 exact Add a b = a +ℤ b
+exact Sub a b = a -ℤ b
 exact Mul a b = a *ℤ b
 
 -- the exact result where 64 bits hold it, and else an overflow

@@ -9,6 +9,7 @@ use crate::outcome::TrapKind;
 #[derive(Clone, Copy, Debug, PartialEq, Eq)]
 pub enum Op {
     Add,
+    Sub,
     Mul,
 }
 
@@ -18,6 +19,7 @@ pub fn arith(op: Op, a: i64, b: i64) -> Result<i64, TrapKind>
 {
     let exact = match op {
         Op::Add => a.checked_add(b),
+        Op::Sub => a.checked_sub(b),
         Op::Mul => a.checked_mul(b),
     };
     exact.ok_or(TrapKind::Overflow)

@@ -15,11 +15,13 @@ pub struct Outside<'a> {
     pub room: u64,
 }
 
-/// What a job left: its status and what its sink took.
+/// What a job left: its status, what its sink took, and how often its store was asked.
 #[derive(Drop)]
 pub struct Left {
     pub status: u8,
     pub output: Vec<u8>,
+    /// How many loads there were.
+    pub loads: u64,
 }
 
 /// Serves the words over a store with one text, and a sink.
@@ -32,7 +34,11 @@ pub fn serve_words(alloc: Global, words: &[&str], outside: &Outside<'_>) -> Resu
     };
     let status = serve(alloc, words.as_slice(), &mut store, &mut sink);
     let output = Vec::from_slice(alloc, sink.bytes())?;
-    Ok(Left { status, output })
+    Ok(Left {
+        status,
+        output,
+        loads: store.calls,
+    })
 }
 
 fn owned(alloc: Global, words: &[&str]) -> Result<Vec<String>, AllocError> {

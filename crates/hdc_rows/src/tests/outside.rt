@@ -92,6 +92,7 @@ fn there_is_one_load_and_one_put(rt: HostRuntime) -> Result<(), Fail> {
     second.failing_puts = &[2];
     let left = serve_words(rt.alloc(), &["hdc", "run", "file"], &second)?;
     assert_eq!(rt; left.status, 0);
+    assert_eq!(rt; left.loads, 1);
     assert_eq!(rt;
         left.output.as_slice(),
         b"value 1\nunfoldings 1\nwork 1\nmessages 0\n".as_slice()

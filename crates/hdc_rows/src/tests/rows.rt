@@ -1,161 +1,204 @@
 //! Programs, with the status and the report of each.
 
-use super::job::{Outside, serve_words};
+use super::job::{Left, Outside, serve_words};
 use std::alloc::{AllocError, Global};
 use std::test::Fail;
 
 const NOT_YET: &str = "refused notyet at 1:1\n";
 
-// A text, its status and its report.
-const ROWS: [(&str, u8, &str); 34] = [
+// The reports of one-line programs: an unfolding, on one processor.
+fn value(alloc: Global, value: &str) -> Result<String, AllocError> {
+    format!(in alloc; "value {value}\nunfoldings 1\nwork 1\nmessages 0\n")
+}
+
+fn overflow(alloc: Global, column: u32) -> Result<String, AllocError> {
+    format!(in alloc; "trap overflow at 1:{column}\nunfoldings 1\nwork 1\nmessages 0\n")
+}
+
+fn left(alloc: Global, text: &[u8]) -> Result<Left, Fail> {
+    let outside = Outside {
+        name: "file",
+        text,
+        failing_loads: &[],
+        failing_puts: &[],
+        room: 1000,
+    };
+    serve_words(alloc, &["hdc", "run", "file"], &outside)
+}
+
+// A text and its value.
+const VALUES: [(&str, &str); 32] = [
     // A literal, and the usual precedence.
-    ("main = 7", 0, "value 7\nunfoldings 1\nwork 1\nmessages 0\n"),
-    (
-        "main = 1 + 2 * 3",
-        0,
-        "value 7\nunfoldings 1\nwork 1\nmessages 0\n",
-    ),
-    (
-        "main = 1 * 2 + 3",
-        0,
-        "value 5\nunfoldings 1\nwork 1\nmessages 0\n",
-    ),
-    (
-        "main = 2 * 3 + 4 * 5",
-        0,
-        "value 26\nunfoldings 1\nwork 1\nmessages 0\n",
-    ),
-    (
-        "main = 2 + 3 * 4 + 5",
-        0,
-        "value 19\nunfoldings 1\nwork 1\nmessages 0\n",
-    ),
-    (
-        "main = 2 * 3 * 4",
-        0,
-        "value 24\nunfoldings 1\nwork 1\nmessages 0\n",
-    ),
-    (
-        "main = 0 * 9223372036854775807",
-        0,
-        "value 0\nunfoldings 1\nwork 1\nmessages 0\n",
-    ),
-    (
-        "main = 9223372036854775807",
-        0,
-        "value 9223372036854775807\nunfoldings 1\nwork 1\nmessages 0\n",
-    ),
-    (
-        "main = 9223372036854775806 + 1",
-        0,
-        "value 9223372036854775807\nunfoldings 1\nwork 1\nmessages 0\n",
-    ),
+    ("main = 7", "7"),
+    ("main = 1 + 2 * 3", "7"),
+    ("main = 1 * 2 + 3", "5"),
+    ("main = 2 * 3 + 4 * 5", "26"),
+    ("main = 2 + 3 * 4 + 5", "19"),
+    ("main = 2 * 3 * 4", "24"),
+    ("main = 2 * 3 - 4 * 5", "-14"),
+    ("main = 20 - 2 * 3", "14"),
+    ("main = 0 * 9223372036854775807", "0"),
+    ("main = 9223372036854775807", "9223372036854775807"),
+    ("main = 9223372036854775806 + 1", "9223372036854775807"),
+    ("main = 0 - 9223372036854775807 - 1", "-9223372036854775808"),
+    // Operators of one precedence associate to the left.
+    ("main = 10 - 3 - 2", "5"),
+    ("main = 10 - 3 + 2", "9"),
+    ("main = 10 + 3 - 2 + 4 - 5", "10"),
+    ("main = 1 - 2", "-1"),
+    // Parentheses.
+    ("main = (2 - 5) * 4", "-12"),
+    ("main = 10 - (3 - 2)", "9"),
+    ("main = 2 * (3 + 4) * 5", "70"),
+    ("main = (((7)))", "7"),
+    ("main = (1 + 2) * (3 + 4)", "21"),
+    ("main = 100 - (1 + (2 + (3 + (4))))", "90"),
+    ("main = (0 - 3) * (0 - 4)", "12"),
+    ("main = (1) - (2)", "-1"),
+    ("main = ((1 + 2) * 3 - (4 - 5) * 6)", "15"),
     // White, and leading zeros.
-    (
-        "main=1+2*3",
-        0,
-        "value 7\nunfoldings 1\nwork 1\nmessages 0\n",
-    ),
-    (
-        "  main  =  1  +  2  \n \n\n",
-        0,
-        "value 3\nunfoldings 1\nwork 1\nmessages 0\n",
-    ),
-    (
-        "main = 0010 + 000000000000000000000000007",
-        0,
-        "value 17\nunfoldings 1\nwork 1\nmessages 0\n",
-    ),
-    // Traps, each at its operator.
-    (
-        "main = 9223372036854775807 + 1",
-        3,
-        "trap overflow at 1:28\nunfoldings 1\nwork 1\nmessages 0\n",
-    ),
-    (
-        "main = 4611686018427387904 * 2",
-        3,
-        "trap overflow at 1:28\nunfoldings 1\nwork 1\nmessages 0\n",
-    ),
-    (
-        "main = 1 + 9223372036854775807 * 1 + 5 * 2",
-        3,
-        "trap overflow at 1:10\nunfoldings 1\nwork 1\nmessages 0\n",
-    ),
-    (
-        "main=9223372036854775807*2+9223372036854775807*3",
-        3,
-        "trap overflow at 1:25\nunfoldings 1\nwork 1\nmessages 0\n",
-    ),
-    (
-        "main = 1 + 4611686018427387904 * 2",
-        3,
-        "trap overflow at 1:32\nunfoldings 1\nwork 1\nmessages 0\n",
-    ),
-    // What is not of the form.
-    ("", 1, NOT_YET),
-    ("main", 1, NOT_YET),
-    ("main =", 1, NOT_YET),
-    ("main = x", 1, NOT_YET),
-    ("main = 1 +", 1, NOT_YET),
-    ("main = + 1", 1, NOT_YET),
-    ("main = 1 2", 1, NOT_YET),
-    ("main = 1 + * 2", 1, NOT_YET),
-    ("main = = 1", 1, NOT_YET),
-    ("main main = 1", 1, NOT_YET),
-    ("main = 1\nmain = 2", 1, NOT_YET),
-    ("main =\n1", 1, NOT_YET),
-    ("\nmain = 1", 1, NOT_YET),
-    ("mai = 1", 1, NOT_YET),
-    ("main = 9223372036854775808", 1, NOT_YET),
-    ("main = 99999999999999999999999999", 1, NOT_YET),
-    ("main = 1\t", 1, NOT_YET),
+    ("main=1+2*3", "7"),
+    ("main=(1-2)*(3-4)", "1"),
+    ("main = ( 1 + 2 ) ", "3"),
+    ("  main  =  1  +  2  \n \n\n", "3"),
+    ("main = 0010 + 000000000000000000000000007", "17"),
+    ("main = 1\n", "1"),
+    ("main=0", "0"),
 ];
 
 #[test]
-fn each_program_gives_its_report(rt: HostRuntime) -> Result<(), Fail> {
-    for (text, status, report) in ROWS {
-        let outside = Outside {
-            name: "file",
-            text: text.as_bytes(),
-            failing_loads: &[],
-            failing_puts: &[],
-            room: 1000,
-        };
-        let left = serve_words(rt.alloc(), &["hdc", "run", "file"], &outside)?;
-        assert_eq!(rt; left.status, status, "of {text}");
+fn each_program_gives_its_value(rt: HostRuntime) -> Result<(), Fail> {
+    for (text, number) in VALUES {
+        let left = left(rt.alloc(), text.as_bytes())?;
+        let report = value(rt.alloc(), number)?;
+        assert_eq!(rt; left.status, 0, "of {text}");
         assert_eq!(rt; left.output.as_slice(), report.as_bytes(), "of {text}");
     }
     Ok(())
 }
 
-// `main = 1 + 1 + ..` with so many operators.
+// A text and the column of its trap.
+const OVERFLOWS: [(&str, u32); 9] = [
+    ("main = 9223372036854775807 + 1", 28),
+    ("main = 4611686018427387904 * 2", 28),
+    ("main = 0 - 9223372036854775807 - 2", 32),
+    ("main = 1 + 9223372036854775807 * 1 + 5 * 2", 10),
+    ("main=9223372036854775807*2+9223372036854775807*3", 25),
+    ("main = 1 + 4611686018427387904 * 2", 32),
+    ("main = 1 - (2 * (9223372036854775807 + 1))", 38),
+    (
+        "main = (9223372036854775807 + 1) * (9223372036854775807 + 2)",
+        29,
+    ),
+    ("main = (1 - 2) * 9223372036854775807 - (1 + 1)", 38),
+];
+
+#[test]
+fn each_trap_stands_at_its_operator(rt: HostRuntime) -> Result<(), Fail> {
+    for (text, column) in OVERFLOWS {
+        let left = left(rt.alloc(), text.as_bytes())?;
+        let report = overflow(rt.alloc(), column)?;
+        assert_eq!(rt; left.status, 3, "of {text}");
+        assert_eq!(rt; left.output.as_slice(), report.as_bytes(), "of {text}");
+    }
+    Ok(())
+}
+
+const OTHERS: [&str; 33] = [
+    "",
+    "main",
+    "main =",
+    "main = x",
+    "main = 1 +",
+    "main = + 1",
+    "main = - 1",
+    "main = 1 2",
+    "main = 1 + * 2",
+    "main = 1 -- 2",
+    "main = 1 - - 2",
+    "main = (-1)",
+    "main = = 1",
+    "main == 1",
+    "main main = 1",
+    "main1 = 1",
+    "main = 1\nmain = 2",
+    "main =\n1",
+    "\nmain = 1",
+    "mai = 1",
+    "main = 9223372036854775808",
+    "main = 99999999999999999999999999",
+    "main = 1\t",
+    "main = 1\r\n",
+    "main = 0x10",
+    "main = 1.5",
+    "main = ()",
+    "main = (1",
+    "main = 1)",
+    "main = (1))",
+    "main = )1(",
+    "main = (1) (2)",
+    "main = (1 +) 2",
+];
+
+#[test]
+fn other_texts_are_refused(rt: HostRuntime) -> Result<(), Fail> {
+    for text in OTHERS {
+        let left = left(rt.alloc(), text.as_bytes())?;
+        assert_eq!(rt; left.status, 1, "of {text}");
+        assert_eq!(rt; left.output.as_slice(), NOT_YET.as_bytes(), "of {text}");
+    }
+    Ok(())
+}
+
+// `main = (1 + 1) + 1 + ..` with so many operators, one of them in parentheses.
 fn long_sum(alloc: Global, operators: usize) -> Result<Vec<u8>, AllocError> {
-    let mut text = Vec::from_slice(alloc, b"main = 1")?;
-    for _ in 0..operators {
+    let mut text = Vec::from_slice(alloc, b"main = (1 + 1)")?;
+    for _ in 1..operators {
         text.extend_from_slice(b" + 1")?;
     }
     Ok(text)
 }
 
+// `main = (..(1)..) - (..(1)..)` with so many parentheses open at once.
+fn deep_difference(alloc: Global, depth: usize) -> Result<Vec<u8>, AllocError> {
+    let mut text = Vec::from_slice(alloc, b"main = ")?;
+    push_deep(&mut text, depth)?;
+    text.extend_from_slice(b" - ")?;
+    push_deep(&mut text, depth)?;
+    Ok(text)
+}
+
+fn push_deep(text: &mut Vec<u8>, depth: usize) -> Result<(), AllocError> {
+    for _ in 0..depth {
+        text.extend_from_slice(b"(")?;
+    }
+    text.extend_from_slice(b"1")?;
+    for _ in 0..depth {
+        text.extend_from_slice(b")")?;
+    }
+    Ok(())
+}
+
 #[test]
-fn the_most_operators_are_five_hundred(rt: HostRuntime) -> Result<(), Fail> {
-    let rows = [
-        (500, 0, "value 501\nunfoldings 1\nwork 1\nmessages 0\n"),
-        (501, 1, NOT_YET),
+fn there_may_be_five_hundred_operators_and_two_hundred_parentheses(
+    rt: HostRuntime,
+) -> Result<(), Fail> {
+    let sum = long_sum(rt.alloc(), 500)?;
+    let report = value(rt.alloc(), "501")?;
+    let left_of_sum = left(rt.alloc(), sum.as_slice())?;
+    assert_eq!(rt; left_of_sum.output.as_slice(), report.as_bytes());
+    let difference = deep_difference(rt.alloc(), 200)?;
+    let report = value(rt.alloc(), "0")?;
+    let left_of_difference = left(rt.alloc(), difference.as_slice())?;
+    assert_eq!(rt; left_of_difference.output.as_slice(), report.as_bytes());
+    let texts = [
+        long_sum(rt.alloc(), 501)?,
+        deep_difference(rt.alloc(), 201)?,
     ];
-    for (operators, status, report) in rows {
-        let text = long_sum(rt.alloc(), operators)?;
-        let outside = Outside {
-            name: "file",
-            text: text.as_slice(),
-            failing_loads: &[],
-            failing_puts: &[],
-            room: 1000,
-        };
-        let left = serve_words(rt.alloc(), &["hdc", "run", "file"], &outside)?;
-        assert_eq!(rt; left.status, status, "at {operators}");
-        assert_eq!(rt; left.output.as_slice(), report.as_bytes(), "at {operators}");
+    for text in &texts {
+        let left = left(rt.alloc(), text.as_slice())?;
+        assert_eq!(rt; left.status, 1);
+        assert_eq!(rt; left.output.as_slice(), NOT_YET.as_bytes());
     }
     Ok(())
 }
