@@ -18,6 +18,7 @@ mod place;
 mod refusal;
 mod std_sink;
 mod text;
+mod token;
 
 pub use file_store::FileStore;
 pub use mem_sink::MemSink;
@@ -26,7 +27,8 @@ pub use outside::{Load, Put, Sink, Store};
 pub use place::{At, Place, Src};
 pub use refusal::{Kind, Limit, Refusal, Stop, Want, Which};
 pub use std_sink::StdSink;
-pub use text::{Calls, Text, Texts};
+pub use text::{Calls, Runes, Text, Texts};
+pub use token::{Key, Token, Tokens, Word};
 
 #[cfg(test)]
 mod tests;

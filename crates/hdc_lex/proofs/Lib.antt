@@ -1,0 +1,6 @@
+pub mod Places
+pub mod Numbers
+pub mod Characters
+pub mod Comments
+pub mod Strings
+pub mod Lexemes
