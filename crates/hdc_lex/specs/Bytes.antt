@@ -1,5 +1,5 @@
 -- Classes of bytes: what may begin with a byte, and what may stand in a name or a literal.
-use Rattle.std.specs.Prelude.{ℕ, List, ◌∷◌, [], Bool, true, false, ◌&&◌, ◌||◌, ◌==◌, nat_le, if◌then◌else◌, codes}
+use Rattle.std.specs.Prelude.{ℕ, List, ◌∷◌, [], Bool, ◌&&◌, ◌||◌, ◌==◌, nat_le, if◌then◌else◌, codes}
 use Rattle.std.specs.List.{list_any}
 use Rattle.hdc_base.specs.declared.token.Key.TheVariants as key
 use Rattle.hdc_lex.specs.declared.class.Class.{Class}
@@ -37,20 +37,9 @@ abbrev pub class_of : ℕ → Class
 class_of b =
     if is_white b then class.White else (if is_small b then class.Small else (if is_capital b then class.Capital else (if is_digit b then class.Digit else (if is_symbol b then class.Symbol else class_of_rest b))))
 
--- the class goes on with a name: letters, digits, _ and '
-abbrev pub goes_on : Class → Bool
-goes_on class.Small = true
-goes_on class.Capital = true
-goes_on class.Digit = true
-goes_on class.Quote = true
-goes_on class.White = false
-goes_on class.Symbol = false
-goes_on (class.Special k) = false
-goes_on class.DoubleQuote = false
-goes_on class.Other = false
-
+-- what a name goes on with: letters, digits, _ and '
 abbrev pub is_name_byte : ℕ → Bool
-is_name_byte b = goes_on (class_of b)
+is_name_byte b = is_small b || is_capital b || is_digit b || (b == 39)
 
 abbrev pub is_hexadecimal : ℕ → Bool
 is_hexadecimal b = is_digit b || is_between 65 70 b || is_between 97 102 b

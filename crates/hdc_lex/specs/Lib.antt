@@ -4,4 +4,6 @@ pub mod Words
 pub mod Numbers
 pub mod Characters
 pub mod Pieces
+pub mod Grammar
+pub mod Fronts
 pub mod Lexing

@@ -76,10 +76,7 @@ pub fn class_of(byte: u8) -> Class
 pub fn is_name_byte(byte: u8) -> bool
     ensures { result ≡ is_name_byte byte }
 {
-    matches!(
-        class_of(byte),
-        Class::Small | Class::Capital | Class::Digit | Class::Quote
-    )
+    matches!(byte, b'a'..=b'z' | b'_' | b'A'..=b'Z' | b'0'..=b'9' | b'\'')
 }
 
 /// Whether the byte goes on with a name of symbols.
