@@ -4,3 +4,8 @@ pub mod Characters
 pub mod Comments
 pub mod Strings
 pub mod Lexemes
+pub mod Classes
+pub mod Runs
+pub mod Stubs
+pub mod Longest
+pub mod OnePiece
