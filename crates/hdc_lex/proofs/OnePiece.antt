@@ -1,11 +1,12 @@
 -- The piece that the function finds is the one that the definition has.
-use Rattle.std.proofs.Common.{◌≡◌, ℕ, zero, suc, ◌+◌, ◌≤◌, ◌<◌, List, [], ◌∷◌, ◌++◌, length, take, drop, refl, sym, ap, subst, ◌∙◌, arith, Bool, true, false, cond, Option, Some, None, Result, Ok, Err}
+use Rattle.std.proofs.Common.{◌≡◌, ◌⊎◌, inl, inr, ℕ, zero, suc, ◌+◌, ◌≤◌, ◌<◌, List, [], ◌∷◌, ◌++◌, length, take, drop, refl, sym, ap, subst, ◌∙◌, arith, Bool, true, false, cond, Option, Some, None, Result, Ok, Err}
 use Rattle.std.specs.Prelude.{◌&&◌, ◌||◌, ◌==◌, nat_le, not, if◌then◌else◌}
 use Rattle.std.specs.List.{list_all, prefix_len, take_while}
 use Rattle.std.specs.Option.{is_some, option_map_or}
-use Rattle.std.proofs.lemmas.Bool.{false≢true, and_parts, and_right, both_ways}
+use Rattle.std.specs.Result.{is_ok}
+use Rattle.std.proofs.lemmas.Bool.{false≢true, and_parts, and_right, both_ways, cases_order}
 use Rattle.std.proofs.lemmas.Bool.Decides.{nat_tests}
-use Rattle.std.proofs.lemmas.List.{length-take}
+use Rattle.std.proofs.lemmas.List.{append_assoc, length-append, length-take, take-append-drop, take-take}
 use Rattle.std.proofs.lemmas.List.Sums.{prefix_len-le-length}
 use Rattle.hdc_base.specs.declared.token.Key.{Key}
 use Rattle.hdc_base.specs.declared.token.Key.TheVariants as key
@@ -16,7 +17,7 @@ use Rattle.hdc_lex.specs.Words.{variable, symbol, key_under, reserved_words, res
 use Rattle.hdc_lex.specs.Numbers.{number_at, number_of, number_within, has_radix, has_fraction, radix_digits, decimal_size}
 use Rattle.hdc_lex.specs.Characters.{stop_at}
 use Rattle.hdc_lex.specs.Pieces.{Found, piece_at, piece_by, symbols_at, special_at, symbol_size, line_size, name_size, as_number, block_comment, character_literal, string_literal, comment_end, begins_with_both}
-use Rattle.hdc_lex.specs.Grammar.{IsLexeme, small, capital, symbols, decimal, hexadecimal, octal, character, string, special, begins_with_member, is_run, IsSpecial, open_paren, close_paren, comma, semicolon, open_bracket, close_bracket, open_brace, close_brace, backquote}
+use Rattle.hdc_lex.specs.Grammar.{IsLexeme, small, capital, symbols, decimal, hexadecimal, octal, character, string, special, begins_with_member, is_run, IsCharacter, AreCharacters, plain, IsSpecial, open_paren, close_paren, comma, semicolon, open_bracket, close_bracket, open_brace, close_brace, backquote}
 use Rattle.hdc_lex.specs.Fronts.{EndsComment, is_dashes, begins_line_comment, begins_comment, IsLongest, is_above, is_malformed, IsPiece, white, line, comment, lexeme, BeginsLexeme, IsFirstFault, HasNoLexeme, IsFault, number, literal, byte}
 use Rattle.hdc_lex.specs.declared.class.Class.{Class}
 use Rattle.hdc_lex.specs.declared.class.Class.TheVariants as class
@@ -26,7 +27,7 @@ use Rattle.hdc_lex.specs.declared.lexeme.Piece.{Piece}
 use Rattle.hdc_lex.specs.declared.lexeme.Piece.TheVariants as piece
 use Rattle.hdc_lex.proofs.Classes.{Meets, meets, white_class, small_class, capital_class, symbol_class, digit_class, special_class}
 use Rattle.hdc_lex.proofs.Runs.{run_passes, take_one_more, take_two_more}
-use Rattle.hdc_lex.proofs.Longest.{lexeme_in, longest_number, longest_by, longest_at, radix_second, covers, longest_is, is_longest, none_found}
+use Rattle.hdc_lex.proofs.Longest.{lexeme_in, longest_number, number_in, longest_by, longest_at, radix_second, covers, longest_is, is_longest, none_found}
 use Rattle.hdc_lex.proofs.Stubs.{comment_read, comment_is, character_is, character_fault, string_is, string_fault}
 
 -- what stands at the front by the definition, for what the function finds
@@ -272,3 +273,199 @@ fronts greatest b bs class.Other e m = byte m (omega arith) (nothing_begins b e)
 pub stands : (greatest : ℕ) (text : List ℕ) → 0 < length text → Stands greatest text (piece_at greatest text)
 stands greatest [] some = absurd (omega (arith, some))
 stands greatest (b ∷ bs) some = fronts greatest b bs (class_of b) refl (meets b (class_of b) refl)
+
+abbrev found_piece : Option (Word × ℕ) → Found
+found_piece (Some found) = Ok (piece.Lexeme found.0, found.1)
+found_piece None = Err fault.Unclosed
+
+-- what has a lexeme in it is that lexeme
+lexeme_found : (r : Found) (w : Word) (size : ℕ) → lexeme_in r ≡ Some (w, size) → r ≡ Ok (piece.Lexeme w, size)
+lexeme_found (Ok (piece.Lexeme v, n)) w size e = ap found_piece e
+lexeme_found (Ok (piece.White, n)) w size e = absurd (false≢true (ap is_some e))
+lexeme_found (Ok (piece.Comment, n)) w size e = absurd (false≢true (ap is_some e))
+lexeme_found (Err f) w size e = absurd (false≢true (ap is_some e))
+
+abbrev malformed_in : ℕ → List ℕ → Option (Word × ℕ) → Bool
+malformed_in greatest text (Some found) = is_malformed greatest (take found.1 text) found.0 (drop found.1 text)
+malformed_in greatest text None = true
+
+or_left : (x y : Bool) → (x || y) ≡ false → x ≡ false
+or_left true y e = absurd (false≢true (sym e))
+or_left false y e = refl
+
+or_right : (x y : Bool) → (x || y) ≡ false → y ≡ false
+or_right true y e = absurd (false≢true (sym e))
+or_right false y e = e
+
+-- the longest lexeme is found, where no comment begins and it is well formed
+lexeme_read : (greatest b : ℕ) (bs : List ℕ) (w : Word) (size : ℕ) (c : Class) → Meets c b → longest_by c (b ∷ bs) ≡ Some (w, size) → begins_comment (b ∷ bs) ≡ false → is_malformed greatest (take size (b ∷ bs)) w (drop size (b ∷ bs)) ≡ false → piece_by c greatest (b ∷ bs) ≡ Ok (piece.Lexeme w, size)
+lexeme_read greatest b bs w size class.White m e c h = absurd (false≢true (ap is_some e))
+lexeme_read greatest b bs w size class.Small m e c h = ap found_piece e
+lexeme_read greatest b bs w size class.Capital m e c h = ap found_piece e
+lexeme_read greatest b bs w size class.Digit m e c h = ap as_number (number_fits greatest b bs m ∙ ap (λ t. number_or t (longest_number (b ∷ bs))) (ap (malformed_in greatest (b ∷ bs)) e ∙ h)) ∙ ap found_piece e
+lexeme_read greatest b bs w size class.Symbol m e c h = ap (λ t. Ok (cond t (piece.Comment, line_size (b ∷ bs)) (piece.Lexeme (symbol (take (symbol_size (b ∷ bs)) (b ∷ bs))), symbol_size (b ∷ bs)))) (sym (dash_test b bs m) ∙ or_left (begins_line_comment (b ∷ bs)) (begins_with_both 123 45 (b ∷ bs)) c) ∙ ap found_piece e
+lexeme_read greatest b bs w size (class.Special k) m e c h = ap (λ t. cond t (block_comment (comment_end 0 (b ∷ bs))) (Ok (piece.Lexeme (word.Key k), 1))) (or_right (begins_line_comment (b ∷ bs)) (begins_with_both 123 45 (b ∷ bs)) c) ∙ ap found_piece e
+lexeme_read greatest b bs w size class.Quote m e c h = lexeme_found (character_literal bs) w size e
+lexeme_read greatest b bs w size class.DoubleQuote m e c h = lexeme_found (string_literal bs) w size e
+lexeme_read greatest b bs w size class.Other m e c h = absurd (false≢true (ap is_some e))
+
+-- two dashes or more begin with a symbol
+line_symbol : (b : ℕ) (bs : List ℕ) → begins_line_comment (b ∷ bs) ≡ true → is_symbol b ≡ true
+line_symbol b bs h = by_test (is_symbol b) refl
+  where
+    by_test : (t : Bool) → is_symbol b ≡ t → t ≡ true
+    by_test true s = refl
+    by_test false s = absurd (false≢true (sym (ap (λ t. is_dashes (take (cond t (1 + prefix_len is_symbol bs) 0) (b ∷ bs))) s) ∙ h))
+
+line_read : (greatest b : ℕ) (bs : List ℕ) → begins_line_comment (b ∷ bs) ≡ true → piece_at greatest (b ∷ bs) ≡ Ok (piece.Comment, length (take_while (λ b. not (b == 10)) (b ∷ bs)))
+line_read greatest b bs h =
+    let s = line_symbol b bs h in
+    let n : (b == 10) ≡ false = grind (arith, nat_tests, s) in
+    ap (λ c. piece_by c greatest (b ∷ bs)) (symbol_class b s) ∙ ap (λ t. Ok (cond t (piece.Comment, line_size (b ∷ bs)) (piece.Lexeme (symbol (take (symbol_size (b ∷ bs)) (b ∷ bs))), symbol_size (b ∷ bs)))) (sym (dash_test b bs s) ∙ h) ∙ ap (λ n. Ok (piece.Comment, n)) (sym (line_sizes b bs n))
+
+-- the piece at the front is found
+piece_read : (greatest : ℕ) (text : List ℕ) (p : Piece) (size : ℕ) → IsPiece greatest text p size → piece_at greatest text ≡ Ok (p, size)
+piece_read greatest [] _ _ (white h) = absurd (false≢true h)
+piece_read greatest (b ∷ bs) _ _ (white h) = ap (λ c. piece_by c greatest (b ∷ bs)) (white_class b h)
+piece_read greatest [] _ _ (line h) = absurd (false≢true h)
+piece_read greatest (b ∷ bs) _ _ (line h) = line_read greatest b bs h
+piece_read greatest text _ _ (comment bytes rest same ends) = ap (piece_at greatest) same ∙ ap block_comment (comment_read bytes rest ends)
+piece_read greatest [] _ _ (lexeme size w c l h) = absurd (false≢true (ap is_some (is_longest [] w size l)))
+piece_read greatest (b ∷ bs) _ _ (lexeme size w c l h) = lexeme_read greatest b bs w size (class_of b) (meets b (class_of b) refl) (is_longest (b ∷ bs) w size l) c h
+
+-- what begins a lexeme begins one with fewer bytes too
+begins_shorter : (text : List ℕ) (k m : ℕ) → k ≤ m → BeginsLexeme (take m text) → BeginsLexeme (take k text)
+begins_shorter text k m h (more, w, lx) =
+    let front : take k (take m text) ≡ take k text = take-take k m text h in
+    let same : take k text ++ (drop k (take m text) ++ more) ≡ take m text ++ more = sym (append_assoc (take k text) (drop k (take m text)) more) ∙ ap (λ t. (t ++ drop k (take m text)) ++ more) (sym front) ∙ ap (λ t. t ++ more) (take-append-drop k (take m text)) in
+    (drop k (take m text) ++ more, w, subst (λ t. IsLexeme t w) (sym same) lx)
+
+-- a text has one first fault
+first_same : (text : List ℕ) (n m : ℕ) → IsFirstFault text n → IsFirstFault text m → n ≡ m
+first_same text n m a b = by_order (cases_order n m)
+  where
+    earlier : (i j : ℕ) → IsFirstFault text i → IsFirstFault text j → i < j → ⊥
+    earlier i j a b h = a.next (omega (arith, h, b.within)) (begins_shorter text (i + 1) j (omega (arith, h)) b.before)
+
+    by_order : (n ≡ m) ⊎ ((n < m) ⊎ (m < n)) → n ≡ m
+    by_order (inl e) = e
+    by_order (inr (inl h)) = absurd (earlier n m a b h)
+    by_order (inr (inr h)) = absurd (earlier m n b a h)
+
+literal_read : (b : ℕ) (bs : List ℕ) (n : ℕ) (r : Found) → HasNoLexeme (b ∷ bs) → IsFirstFault (b ∷ bs) n → ((p : Piece) (size : ℕ) → r ≡ Ok (p, size) → (w : Word) × (p ≡ piece.Lexeme w) × (size ≤ 1 + length bs) × IsLexeme (take size (b ∷ bs)) w) → ((f : Fault) → r ≡ Err f → (n : ℕ) × (f ≡ stop_at n (drop n (b ∷ bs))) × IsFirstFault (b ∷ bs) n) → r ≡ Err (stop_at n (drop n (b ∷ bs)))
+literal_read b bs n (Ok (p, size)) none first good bad =
+    let (w, same, within, lx) = good p size refl in
+    absurd (none size w (omega (arith, within)) lx)
+literal_read b bs n (Err f) none first good bad =
+    let (m, same, other) = bad f refl in
+    ap Err (same ∙ ap (λ k. stop_at k (drop k (b ∷ bs))) (first_same (b ∷ bs) m n other first))
+
+quote_read : (greatest b : ℕ) (bs : List ℕ) (n : ℕ) → is_one_of (34 ∷ 39 ∷ []) b ≡ true → HasNoLexeme (b ∷ bs) → IsFirstFault (b ∷ bs) n → piece_at greatest (b ∷ bs) ≡ Err (stop_at n (drop n (b ∷ bs)))
+quote_read greatest b bs n q none first = by_test (34 == b) refl
+  where
+    by_test : (t : Bool) → (34 == b) ≡ t → piece_at greatest (b ∷ bs) ≡ Err (stop_at n (drop n (b ∷ bs)))
+    by_test true h =
+        let same : b ≡ 34 = grind (arith, nat_tests, h) in
+        let none_there : HasNoLexeme (34 ∷ bs) = subst (λ b. HasNoLexeme (b ∷ bs)) same none in
+        let first_there : IsFirstFault (34 ∷ bs) n = subst (λ b. IsFirstFault (b ∷ bs) n) same first in
+        subst (λ b. piece_at greatest (b ∷ bs) ≡ Err (stop_at n (drop n (b ∷ bs)))) (sym same) (literal_read 34 bs n (string_literal bs) none_there first_there (string_is bs) (string_fault bs))
+    by_test false h =
+        let same : b ≡ 39 = grind (arith, nat_tests, h, q) in
+        let none_there : HasNoLexeme (39 ∷ bs) = subst (λ b. HasNoLexeme (b ∷ bs)) same none in
+        let first_there : IsFirstFault (39 ∷ bs) n = subst (λ b. IsFirstFault (b ∷ bs) n) same first in
+        subst (λ b. piece_at greatest (b ∷ bs) ≡ Err (stop_at n (drop n (b ∷ bs)))) (sym same) (literal_read 39 bs n (character_literal bs) none_there first_there (character_is bs) (character_fault bs))
+
+-- a byte that begins no lexeme has no class
+byte_read : (greatest b : ℕ) (bs : List ℕ) (c : Class) → Meets c b → is_white b ≡ false → (BeginsLexeme (b ∷ []) → ⊥) → piece_by c greatest (b ∷ bs) ≡ Err (fault.Byte 0)
+byte_read greatest b bs class.White m h none = absurd (both_ways (is_white b) h m)
+byte_read greatest b bs class.Small m h none = absurd (none ([], variable (b ∷ []), small b [] m refl))
+byte_read greatest b bs class.Capital m h none = absurd (none ([], word.Con (b ∷ []), capital b [] m refl))
+byte_read greatest b bs class.Digit m h none = absurd (none ([], word.Num (number_of 10 (b ∷ [])), decimal (b ∷ []) (ap (λ t. t && true) m)))
+byte_read greatest b bs class.Symbol m h none = absurd (none ([], symbol (b ∷ []), symbols (b ∷ []) (ap (λ t. t && true) m)))
+byte_read greatest b bs (class.Special k) m h none = absurd (none ([], word.Key k, special b k m))
+byte_read greatest b bs class.Quote m h none = absurd (none (97 ∷ 39 ∷ [], word.Chr 97, subst (λ b. IsLexeme (b ∷ 97 ∷ 39 ∷ []) (word.Chr 97)) (sym m) (character (97 ∷ []) 97 (plain 97 refl))))
+byte_read greatest b bs class.DoubleQuote m h none = absurd (none (34 ∷ [], word.Str [], subst (λ b. IsLexeme (b ∷ 34 ∷ []) (word.Str [])) (sym m) (string [] [] AreCharacters.none)))
+byte_read greatest b bs class.Other m h none = refl
+
+-- a malformed number is refused
+number_read : (greatest b : ℕ) (bs : List ℕ) (size : ℕ) (w : Word) → IsLongest (b ∷ bs) size w → is_malformed greatest (take size (b ∷ bs)) w (drop size (b ∷ bs)) ≡ true → piece_at greatest (b ∷ bs) ≡ Err fault.Literal
+number_read greatest b bs size w l h = by_test (is_digit b) refl
+  where
+    by_test : (t : Bool) → is_digit b ≡ t → piece_at greatest (b ∷ bs) ≡ Err fault.Literal
+    by_test true d =
+        let e : number_in (longest_number (b ∷ bs)) ≡ Some (w, size) = sym (ap (λ c. longest_by c (b ∷ bs)) (digit_class b d)) ∙ is_longest (b ∷ bs) w size l in
+        ap (λ c. piece_by c greatest (b ∷ bs)) (digit_class b d) ∙ ap as_number (number_fits greatest b bs d ∙ ap (λ t. number_or t (longest_number (b ∷ bs))) (ap (malformed_in greatest (b ∷ bs)) e ∙ h))
+    by_test false d = absurd (both_ways _ (well_formed greatest b bs size w (drop size (b ∷ bs)) d l.lexeme) h)
+
+unclosed_read : (greatest : ℕ) (cs : List ℕ) → ((bytes rest : List ℕ) → 123 ∷ 45 ∷ cs ≡ 123 ∷ 45 ∷ (bytes ++ rest) → EndsComment bytes → ⊥) → piece_at greatest (123 ∷ 45 ∷ cs) ≡ Err fault.Unclosed
+unclosed_read greatest cs none = by_end (comment_end 0 (123 ∷ 45 ∷ cs)) refl
+  where
+    by_end : (o : Option ℕ) → comment_end 0 (123 ∷ 45 ∷ cs) ≡ o → block_comment (comment_end 0 (123 ∷ 45 ∷ cs)) ≡ Err fault.Unclosed
+    by_end None e = ap block_comment e
+    by_end (Some n) e =
+        let (bytes, rest, same, ends, size) = comment_is cs n e in
+        absurd (none bytes rest (ap (λ t. 123 ∷ 45 ∷ t) same) ends)
+
+-- a fault at the front is found
+fault_read : (greatest : ℕ) (text : List ℕ) (f : Fault) → IsFault greatest text f → piece_at greatest text ≡ Err f
+fault_read greatest [] _ (number size w c l h) = absurd (false≢true (ap is_some (is_longest [] w size l)))
+fault_read greatest (b ∷ bs) _ (number size w c l h) = number_read greatest b bs size w l h
+fault_read greatest [] _ (comment h none) = absurd (false≢true h)
+fault_read greatest (b ∷ []) _ (comment h none) = absurd (false≢true h)
+fault_read greatest (b ∷ c ∷ cs) _ (comment h none) =
+    let parts = and_parts (b == 123) (c == 45) h in
+    let first : b ≡ 123 = grind (arith, nat_tests, parts.0) in
+    let second : c ≡ 45 = grind (arith, nat_tests, parts.1) in
+    let same : b ∷ c ∷ cs ≡ 123 ∷ 45 ∷ cs = ap (λ b. b ∷ c ∷ cs) first ∙ ap (λ c. 123 ∷ c ∷ cs) second in
+    ap (piece_at greatest) same ∙ unclosed_read greatest cs (λ bytes rest e ends. none bytes rest (same ∙ e) ends)
+fault_read greatest [] _ (literal n q none first) = absurd (false≢true q)
+fault_read greatest (b ∷ bs) _ (literal n q none first) = quote_read greatest b bs n q none first
+fault_read greatest [] _ (byte h some none) = absurd (omega (arith, some))
+fault_read greatest (b ∷ bs) _ (byte h some none) = byte_read greatest b bs (class_of b) (meets b (class_of b) refl) h none
+
+-- what is found is the piece
+pub piece_is : (greatest : ℕ) (text : List ℕ) (p : Piece) (size : ℕ) → piece_at greatest text ≡ Ok (p, size) → IsPiece greatest text p size
+piece_is greatest [] p size e = absurd (false≢true (ap is_ok e))
+piece_is greatest (b ∷ bs) p size e = subst (Stands greatest (b ∷ bs)) e (stands greatest (b ∷ bs) (omega arith))
+
+-- what is refused is the fault
+pub fault_is : (greatest : ℕ) (text : List ℕ) (f : Fault) → 0 < length text → piece_at greatest text ≡ Err f → IsFault greatest text f
+fault_is greatest text f some e = subst (Stands greatest text) e (stands greatest text some)
+
+-- where there is a fault there is no piece
+pub no_piece : (greatest : ℕ) (text : List ℕ) (p : Piece) (size : ℕ) (f : Fault) → IsPiece greatest text p size → IsFault greatest text f → ⊥
+no_piece greatest text p size f a b = false≢true (ap is_ok (sym (fault_read greatest text f b) ∙ piece_read greatest text p size a))
+
+abbrev piece_or : Found → Piece
+piece_or (Ok found) = found.0
+piece_or (Err f) = piece.White
+
+abbrev size_or : Found → ℕ
+size_or (Ok found) = found.1
+size_or (Err f) = 0
+
+abbrev fault_or : Found → Fault
+fault_or (Ok found) = fault.Unclosed
+fault_or (Err f) = f
+
+-- a text has one piece at its front
+pub same_piece : (greatest : ℕ) (text : List ℕ) (p q : Piece) (m n : ℕ) → IsPiece greatest text p m → IsPiece greatest text q n → (p ≡ q) × (m ≡ n)
+same_piece greatest text p q m n a b =
+    let same : Ok (p, m) ≡ Ok (q, n) = sym (piece_read greatest text p m a) ∙ piece_read greatest text q n b in
+    (ap piece_or same, ap size_or same)
+
+-- and one fault
+pub same_fault : (greatest : ℕ) (text : List ℕ) (f g : Fault) → IsFault greatest text f → IsFault greatest text g → f ≡ g
+same_fault greatest text f g a b = ap fault_or (sym (fault_read greatest text f a) ∙ fault_read greatest text g b)
+
+-- a piece has a byte, and lies in the text
+pub piece_some : (greatest : ℕ) (text : List ℕ) (p : Piece) (size : ℕ) → IsPiece greatest text p size → (0 < size) × (size ≤ length text)
+piece_some greatest [] _ _ (white h) = absurd (false≢true h)
+piece_some greatest (b ∷ bs) _ _ (white h) = (omega arith, omega arith)
+piece_some greatest [] _ _ (line h) = absurd (false≢true h)
+piece_some greatest (b ∷ bs) _ _ (line h) =
+    let s = line_symbol b bs h in
+    let n : (b == 10) ≡ false = grind (arith, nat_tests, s) in
+    (omega (arith, line_sizes b bs n), omega (arith, line_sizes b bs n, prefix_len-le-length (λ b. not (b == 10)) bs))
+piece_some greatest text _ _ (comment bytes rest same ends) = (omega arith, omega (arith, ap length same, length-append bytes rest))
+piece_some greatest text _ _ (lexeme size w c l h) = (omega (arith, lexeme_some _ _ l.lexeme, length-take size text, l.within), l.within)
