@@ -4,4 +4,5 @@ pub mod Characters
 pub mod Comments
 pub mod NestedComments
 pub mod Strings
+pub mod OnePiece
 pub mod Lexemes
