@@ -6,3 +6,4 @@ pub mod NestedComments
 pub mod Strings
 pub mod OnePiece
 pub mod Lexemes
+pub mod OneAnswer

@@ -92,3 +92,7 @@ Lexes form text (Err (stop.Byte place)) = IsStop form text (stop.Byte place)
 Lexes form text (Err (stop.Literal place)) = IsStop form text (stop.Literal place)
 Lexes form text (Err (stop.Unclosed place)) = IsStop form text (stop.Unclosed place)
 Lexes form text (Err stop.Want) = Unit {0}
+
+-- a text has one answer, but for want of memory
+abbrev pub OneAnswer : Form → List ℕ → Type 0
+OneAnswer form text = (first second : Result (List Token) LexStop) → Lexes form text first → Lexes form text second → (first ≡ Err stop.Want → ⊥) → (second ≡ Err stop.Want → ⊥) → first ≡ second
