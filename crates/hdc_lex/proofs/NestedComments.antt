@@ -92,35 +92,53 @@ both_true a b first second rest h = (grind (arith, nat_tests, h), grind (arith, 
 abbrev ReadsWithin : ℕ → Type 0
 ReadsWithin bound = (depth : ℕ) (text : List ℕ) (n : ℕ) → length text ≤ bound → comment_end (depth + 1) text ≡ Some n → IsRead depth text n
 
--- behind two bytes that open a comment
-is_opened : (bound depth a b n : ℕ) (text : List ℕ) → ReadsWithin bound → length (a ∷ b ∷ text) ≤ suc bound → begins_with_both 123 45 (a ∷ b ∷ text) ≡ true → comment_end (depth + 1) (a ∷ b ∷ text) ≡ Some n → IsRead depth (a ∷ b ∷ text) n
-is_opened bound depth a b n text reads short h e =
-    let (m, inside, n_is) = more_back 2 n (comment_end (depth + 1 + 1) text) (sym (opened (depth + 1) (a ∷ b ∷ text) h) ∙ e) in
-    let (inner, behind, text_is, ends_inner, told) = reads (depth + 1) text m (omega (arith, short)) inside in
-    let (k, outside, m_is) = more_back (length inner) m (comment_end (depth + 1) behind) (sym (behind_inner depth (length inner) behind) ∙ told) in
-    let (more, rest, behind_is, ends_more, told_more) = reads depth behind k (omega (arith, short, ap length text_is, length-append inner behind)) outside in
-    let (a_is, b_is) = both_true a b 123 45 text h in
+-- two comments in turn behind two bytes that open the first
+opened_around : (depth a b n m k : ℕ) (text inner behind : List ℕ) → begins_with_both 123 45 (a ∷ b ∷ text) ≡ true → n ≡ 2 + m → text ≡ inner ++ behind → EndsComment inner → m ≡ length inner + k → IsRead depth behind k → IsRead depth (a ∷ b ∷ text) n
+opened_around depth a b n m k text inner behind h n_is text_is ends m_is (more, rest, behind_is, ends_more, told) =
+    let same = both_true a b 123 45 text h in
     let size : length (123 ∷ 45 ∷ (inner ++ more)) ≡ 2 + length inner + length more = omega (arith, length-append inner more) in
     let sum : 2 + length inner + k ≡ n = omega (arith, n_is, m_is) in
-    let text_all : a ∷ b ∷ text ≡ 123 ∷ 45 ∷ ((inner ++ more) ++ rest) = ap (λ c. c ∷ b ∷ text) a_is ∙ ap (λ c. 123 ∷ c ∷ text) b_is ∙ ap (λ bs. 123 ∷ 45 ∷ bs) (text_is ∙ ap (λ bs. inner ++ bs) behind_is ∙ sym (append_assoc inner more rest)) in
-    (123 ∷ 45 ∷ (inner ++ more), rest, text_all, nested inner more ends_inner ends_more, ap (λ s. behind_end depth s rest) size ∙ sym (behind_more (2 + length inner) depth (length more) rest) ∙ ap (more_by (2 + length inner)) told_more ∙ ap Some sum)
+    let text_all : text ≡ (inner ++ more) ++ rest = text_is ∙ ap (λ bs. inner ++ bs) behind_is ∙ sym (append_assoc inner more rest) in
+    let end = sym (behind_more (2 + length inner) depth (length more) rest) ∙ ap (more_by (2 + length inner)) told ∙ ap Some sum in
+    (123 ∷ 45 ∷ (inner ++ more), rest, ap (λ c. c ∷ b ∷ text) same.0 ∙ ap (λ c. 123 ∷ c ∷ text) same.1 ∙ ap (λ bs. 123 ∷ 45 ∷ bs) text_all, nested inner more ends ends_more, ap (λ s. behind_end depth s rest) size ∙ end)
+
+-- behind two bytes that open a comment, and behind that comment
+opened_more : (bound depth a b n m : ℕ) (text : List ℕ) → ReadsWithin bound → length (a ∷ b ∷ text) ≤ suc bound → begins_with_both 123 45 (a ∷ b ∷ text) ≡ true → n ≡ 2 + m → IsRead (depth + 1) text m → IsRead depth (a ∷ b ∷ text) n
+opened_more bound depth a b n m text reads short h n_is (inner, behind, text_is, ends, told) = by_rest (more_back (length inner) m (comment_end (depth + 1) behind) (sym (behind_inner depth (length inner) behind) ∙ told))
+  where
+    by_rest : (k : ℕ) × (comment_end (depth + 1) behind ≡ Some k) × (m ≡ length inner + k) → IsRead depth (a ∷ b ∷ text) n
+    by_rest (k, outside, m_is) = opened_around depth a b n m k text inner behind h n_is text_is ends m_is (reads depth behind k (omega (arith, short, ap length text_is, length-append inner behind)) outside)
+
+-- behind two bytes that open a comment
+is_opened : (bound depth a b n : ℕ) (text : List ℕ) → ReadsWithin bound → length (a ∷ b ∷ text) ≤ suc bound → begins_with_both 123 45 (a ∷ b ∷ text) ≡ true → comment_end (depth + 1) (a ∷ b ∷ text) ≡ Some n → IsRead depth (a ∷ b ∷ text) n
+is_opened bound depth a b n text reads short h e = by_rest (more_back 2 n (comment_end (depth + 1 + 1) text) (sym (opened (depth + 1) (a ∷ b ∷ text) h) ∙ e))
+  where
+    by_rest : (m : ℕ) × (comment_end (depth + 1 + 1) text ≡ Some m) × (n ≡ 2 + m) → IsRead depth (a ∷ b ∷ text) n
+    by_rest (m, inside, n_is) = opened_more bound depth a b n m text reads short h n_is (reads (depth + 1) text m (omega (arith, short)) inside)
 
 -- behind two bytes that close a comment
 is_closed : (depth a b n : ℕ) (text : List ℕ) → begins_with_both 45 125 (a ∷ b ∷ text) ≡ true → comment_end (depth + 1) (a ∷ b ∷ text) ≡ Some n → IsRead depth (a ∷ b ∷ text) n
 is_closed depth a b n text h e =
-    let (a_is, b_is) = both_true a b 45 125 text h in
-    let same : a ∷ b ∷ text ≡ 45 ∷ 125 ∷ text = ap (λ c. c ∷ b ∷ text) a_is ∙ ap (λ c. 45 ∷ c ∷ text) b_is in
+    let bytes = both_true a b 45 125 text h in
+    let same : a ∷ b ∷ text ≡ 45 ∷ 125 ∷ text = ap (λ c. c ∷ b ∷ text) bytes.0 ∙ ap (λ c. 45 ∷ c ∷ text) bytes.1 in
     (45 ∷ 125 ∷ [], text, same, close, sym (behind_close depth text) ∙ ap (comment_end (depth + 1)) (sym same) ∙ e)
+
+-- a byte before a comment's rest
+walked_around : (depth a b n m : ℕ) (text : List ℕ) → begins_with_both 123 45 (a ∷ b ∷ text) ≡ false → begins_with_both 45 125 (a ∷ b ∷ text) ≡ false → n ≡ 1 + m → IsRead depth (b ∷ text) m → IsRead depth (a ∷ b ∷ text) n
+walked_around depth a b n m text opens closes n_is (bytes, rest, text_is, ends, told) = (a ∷ bytes, rest, ap (λ bs. a ∷ bs) text_is, other a bytes (front 123 45 ∙ opens) (front 45 125 ∙ closes) ends, ap (λ s. behind_end depth s rest) size ∙ sym (behind_more 1 depth (length bytes) rest) ∙ ap (more_by 1) told ∙ ap Some (sym n_is))
+  where
+    front : (first second : ℕ) → begins_with_both first second (a ∷ bytes) ≡ begins_with_both first second (a ∷ b ∷ text)
+    front first second = sym (begins_front first second a bytes rest (ends_some bytes ends)) ∙ ap (λ bs. begins_with_both first second (a ∷ bs)) (sym text_is)
+
+    size : length (a ∷ bytes) ≡ 1 + length bytes
+    size = omega arith
 
 -- behind one byte of a comment
 is_walked : (bound depth a b n : ℕ) (text : List ℕ) → ReadsWithin bound → length (a ∷ b ∷ text) ≤ suc bound → begins_with_both 123 45 (a ∷ b ∷ text) ≡ false → begins_with_both 45 125 (a ∷ b ∷ text) ≡ false → comment_end (depth + 1) (a ∷ b ∷ text) ≡ Some n → IsRead depth (a ∷ b ∷ text) n
-is_walked bound depth a b n text reads short opens closes e =
-    let long : 2 ≤ length (a ∷ b ∷ text) = omega arith in
-    let (m, inside, n_is) = more_back 1 n (comment_end (depth + 1) (b ∷ text)) (sym (walked (depth + 1) (a ∷ b ∷ text) opens closes long) ∙ e) in
-    let (bytes, rest, text_is, ends, told) = reads depth (b ∷ text) m (omega (arith, short)) inside in
-    let front = λ (first second : ℕ). sym (begins_front first second a bytes rest (ends_some bytes ends)) ∙ ap (λ bs. begins_with_both first second (a ∷ bs)) (sym text_is) in
-    let size : length (a ∷ bytes) ≡ 1 + length bytes = omega arith in
-    (a ∷ bytes, rest, ap (λ bs. a ∷ bs) text_is, other a bytes (front 123 45 ∙ opens) (front 45 125 ∙ closes) ends, ap (λ s. behind_end depth s rest) size ∙ sym (behind_more 1 depth (length bytes) rest) ∙ ap (more_by 1) told ∙ ap Some (sym n_is))
+is_walked bound depth a b n text reads short opens closes e = by_rest (more_back 1 n (comment_end (depth + 1) (b ∷ text)) (sym (walked (depth + 1) (a ∷ b ∷ text) opens closes (omega arith)) ∙ e))
+  where
+    by_rest : (m : ℕ) × (comment_end (depth + 1) (b ∷ text) ≡ Some m) × (n ≡ 1 + m) → IsRead depth (a ∷ b ∷ text) n
+    by_rest (m, inside, n_is) = walked_around depth a b n m text opens closes n_is (reads depth (b ∷ text) m (omega (arith, short)) inside)
 
 -- the same at two bytes
 is_step : (bound depth a b n : ℕ) (text : List ℕ) → ReadsWithin bound → length (a ∷ b ∷ text) ≤ suc bound → comment_end (depth + 1) (a ∷ b ∷ text) ≡ Some n → IsRead depth (a ∷ b ∷ text) n
@@ -143,8 +161,12 @@ is_at (suc bound) depth (a ∷ b ∷ text) n short e = is_step bound depth a b n
 
 -- what is found is a comment
 pub comment_is : (text : List ℕ) (n : ℕ) → comment_end 0 (123 ∷ 45 ∷ text) ≡ Some n → (bytes : List ℕ) × (rest : List ℕ) × (text ≡ bytes ++ rest) × EndsComment bytes × (n ≡ 2 + length bytes)
-comment_is text n e =
-    let (m, inside, n_is) = more_back 2 n (comment_end 1 text) (sym (opened 0 (123 ∷ 45 ∷ text) refl) ∙ e) in
-    let (bytes, rest, text_is, ends, told) = is_at (length text) 0 text m (omega arith) inside in
-    let size : length bytes ≡ m = cc in
-    (bytes, rest, text_is, ends, n_is ∙ ap (λ k. 2 + k) (sym size))
+comment_is text n e = by_rest (more_back 2 n (comment_end 1 text) (sym (opened 0 (123 ∷ 45 ∷ text) refl) ∙ e))
+  where
+    by_read : (m : ℕ) → n ≡ 2 + m → IsRead 0 text m → (bytes : List ℕ) × (rest : List ℕ) × (text ≡ bytes ++ rest) × EndsComment bytes × (n ≡ 2 + length bytes)
+    by_read m n_is (bytes, rest, text_is, ends, told) =
+        let size : length bytes ≡ m = cc in
+        (bytes, rest, text_is, ends, n_is ∙ ap (λ k. 2 + k) (sym size))
+
+    by_rest : (m : ℕ) × (comment_end 1 text ≡ Some m) × (n ≡ 2 + m) → (bytes : List ℕ) × (rest : List ℕ) × (text ≡ bytes ++ rest) × EndsComment bytes × (n ≡ 2 + length bytes)
+    by_rest (m, inside, n_is) = by_read m n_is (is_at (length text) 0 text m (omega arith) inside)
