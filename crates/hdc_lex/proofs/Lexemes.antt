@@ -8,7 +8,6 @@ use Rattle.hdc_base.specs.declared.token.Word.{Word}
 use Rattle.hdc_lex.specs.Place.{first_place, behind_all, ForAtMost}
 use Rattle.hdc_lex.specs.Numbers.{greatest_number}
 use Rattle.hdc_lex.specs.Pieces.{Found, piece_at}
-use Rattle.hdc_lex.specs.Fronts.{IsPiece}
 use Rattle.hdc_lex.specs.Lexing.{most_lexemes, minus_after, tokens_of, Begins, none, more, stop_of, IsStop, IsTooMany, IsWhole, Lexes}
 use Rattle.hdc_lex.specs.declared.lexeme.Form.{Form}
 use Rattle.hdc_lex.specs.declared.lexeme.Fault.{Fault}
