@@ -5,7 +5,7 @@ use Rattle.std.proofs.lemmas.Bool.{false≢true}
 use Rattle.std.proofs.lemmas.Bool.Decides.{nat_tests}
 use Rattle.hdc_lex.specs.Pieces.{more_by, begins_with_both, comment_end}
 
-more_twice : (n m : ℕ) (size : Option ℕ) → more_by n (more_by m size) ≡ more_by (n + m) size
+pub more_twice : (n m : ℕ) (size : Option ℕ) → more_by n (more_by m size) ≡ more_by (n + m) size
 more_twice n m None = refl
 more_twice n m (Some size) = let e : n + (m + size) ≡ n + m + size = omega arith in ap Some e
 
@@ -17,17 +17,17 @@ one_step text offset size depth next e h = h ∙ ap (more_by offset) e ∙ more_
 abbrev behind_two : (opens closes : Bool) (depth a b : ℕ) (rest : List ℕ) → Option ℕ
 behind_two opens closes depth a b rest = cond opens (more_by 2 (comment_end (depth + 1) rest)) (cond closes (cond (depth == 1) (Some 2) (more_by 2 (comment_end (depth - 1) rest))) (more_by 1 (comment_end depth (b ∷ rest))))
 
-opened : (depth : ℕ) (rest : List ℕ) → begins_with_both 123 45 rest ≡ true → comment_end depth rest ≡ more_by 2 (comment_end (depth + 1) (drop 2 rest))
+pub opened : (depth : ℕ) (rest : List ℕ) → begins_with_both 123 45 rest ≡ true → comment_end depth rest ≡ more_by 2 (comment_end (depth + 1) (drop 2 rest))
 opened depth [] h = absurd (false≢true h)
 opened depth (a ∷ []) h = absurd (false≢true h)
 opened depth (a ∷ b ∷ rest) h = ap (λ t. behind_two t (begins_with_both 45 125 (a ∷ b ∷ rest)) depth a b rest) h
 
-closed : (depth : ℕ) (rest : List ℕ) → begins_with_both 123 45 rest ≡ false → begins_with_both 45 125 rest ≡ true → comment_end depth rest ≡ cond (depth == 1) (Some 2) (more_by 2 (comment_end (depth - 1) (drop 2 rest)))
+pub closed : (depth : ℕ) (rest : List ℕ) → begins_with_both 123 45 rest ≡ false → begins_with_both 45 125 rest ≡ true → comment_end depth rest ≡ cond (depth == 1) (Some 2) (more_by 2 (comment_end (depth - 1) (drop 2 rest)))
 closed depth [] g h = absurd (false≢true h)
 closed depth (a ∷ []) g h = absurd (false≢true h)
 closed depth (a ∷ b ∷ rest) g h = ap (λ t. behind_two t (begins_with_both 45 125 (a ∷ b ∷ rest)) depth a b rest) g ∙ ap (λ t. behind_two false t depth a b rest) h
 
-walked : (depth : ℕ) (rest : List ℕ) → begins_with_both 123 45 rest ≡ false → begins_with_both 45 125 rest ≡ false → 2 ≤ length rest → comment_end depth rest ≡ more_by 1 (comment_end depth (drop 1 rest))
+pub walked : (depth : ℕ) (rest : List ℕ) → begins_with_both 123 45 rest ≡ false → begins_with_both 45 125 rest ≡ false → 2 ≤ length rest → comment_end depth rest ≡ more_by 1 (comment_end depth (drop 1 rest))
 walked depth [] g h long = absurd (omega (arith, long))
 walked depth (a ∷ []) g h long = absurd (omega (arith, long))
 walked depth (a ∷ b ∷ rest) g h long = ap (λ t. behind_two t (begins_with_both 45 125 (a ∷ b ∷ rest)) depth a b rest) g ∙ ap (λ t. behind_two false t depth a b rest) h

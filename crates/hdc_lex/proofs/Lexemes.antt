@@ -15,6 +15,7 @@ use Rattle.hdc_lex.specs.declared.lexeme.Fault.TheVariants as fault
 use Rattle.hdc_lex.specs.declared.lexeme.Piece.{Piece}
 use Rattle.hdc_lex.specs.declared.lexeme.Piece.TheVariants as piece
 use Rattle.hdc_lex.proofs.Places.{fits_behind_all}
+use Rattle.hdc_lex.proofs.OnePiece.{piece_is, fault_is, no_piece}
 
 -- so far the text is read, and places of 32 bits are left for the rest
 pub record Reading (form : Form) (text : List ℕ) (tokens : List Token) (minus : Bool) (at : At) (offset : ℕ) : Type 0 where
@@ -35,7 +36,7 @@ pub reading_more : (form : Form) (text : List ℕ) (tokens : List Token) (minus 
 reading_more form text tokens minus at offset p size r found within count =
     let behind : drop size (drop offset text) ≡ drop (offset + size) text = drop-drop size offset text in
     record {
-      begins = subst (λ rest. Begins form text (tokens ++ tokens_of at p) (minus_after minus p) (behind_all at (take size (drop offset text))) rest) behind (more tokens minus at (drop offset text) p size r.begins found);
+      begins = subst (λ rest. Begins form text (tokens ++ tokens_of at p) (minus_after minus p) (behind_all at (take size (drop offset text))) rest) behind (more tokens minus at (drop offset text) p size r.begins (piece_is (greatest_number form minus) (drop offset text) p size found));
       count = count;
       within = omega (arith, within, r.within, length-drop offset text);
       room = subst (λ rest. ForAtMost (length rest) (behind_all at (take size (drop offset text)))) behind (room_behind (drop offset text) size at within r.room);
@@ -59,13 +60,16 @@ pub whole : (form : Form) (text : List ℕ) (tokens : List Token) (minus : Bool)
 whole form text tokens minus at offset r end = record { minus = minus; at = at; begins = subst (λ rest. Begins form text tokens minus at rest) (drop_of_length-le text end) r.begins; within = r.count }
 
 pub too_many : (form : Form) (text : List ℕ) (tokens : List Token) (minus : Bool) (at : At) (offset : ℕ) (w : Word) (size : ℕ) → Reading form text tokens minus at offset → piece_at (greatest_number form minus) (drop offset text) ≡ Ok (piece.Lexeme w, size) → most_lexemes ≤ length tokens → IsTooMany form text at
-too_many form text tokens minus at offset w size r found many = record { tokens = tokens; minus = minus; rest = drop offset text; w = w; size = size; begins = r.begins; count = omega (arith, many, r.count); lexeme = found }
+too_many form text tokens minus at offset w size r found many = record { tokens = tokens; minus = minus; rest = drop offset text; w = w; size = size; begins = r.begins; count = omega (arith, many, r.count); lexeme = piece_is (greatest_number form minus) (drop offset text) (piece.Lexeme w) size found }
 
 pub stopped : (form : Form) (text : List ℕ) (tokens : List Token) (minus : Bool) (at : At) (offset : ℕ) (f : Fault) → Reading form text tokens minus at offset → piece_at (greatest_number form minus) (drop offset text) ≡ Err f → offset < length text → Lexes form text (Err (stop_of at (drop offset text) f))
 stopped form text tokens minus at offset f r found before = by_fault f found
   where
     told : (f : Fault) → piece_at (greatest_number form minus) (drop offset text) ≡ Err f → IsStop form text (stop_of at (drop offset text) f)
-    told f found = record { tokens = tokens; minus = minus; at = at; rest = drop offset text; found = f; begins = r.begins; within = r.count; some = omega (arith, before, length-drop offset text); none = found; told = refl }
+    told f found =
+        let some : 0 < length (drop offset text) = omega (arith, before, length-drop offset text) in
+        let wrong = fault_is (greatest_number form minus) (drop offset text) f some found in
+        record { tokens = tokens; minus = minus; at = at; rest = drop offset text; found = f; begins = r.begins; within = r.count; wrong = wrong; none = λ p size h. no_piece (greatest_number form minus) (drop offset text) p size f h wrong; told = refl }
 
     by_fault : (f : Fault) → piece_at (greatest_number form minus) (drop offset text) ≡ Err f → Lexes form text (Err (stop_of at (drop offset text) f))
     by_fault (fault.Byte n) found = told (fault.Byte n) found

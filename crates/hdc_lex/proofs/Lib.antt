@@ -2,10 +2,12 @@ pub mod Places
 pub mod Numbers
 pub mod Characters
 pub mod Comments
+pub mod NestedComments
 pub mod Strings
-pub mod Lexemes
 pub mod Classes
 pub mod Runs
 pub mod Stubs
 pub mod Longest
 pub mod OnePiece
+pub mod Lexemes
+pub mod OneAnswer

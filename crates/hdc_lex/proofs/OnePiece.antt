@@ -28,7 +28,8 @@ use Rattle.hdc_lex.specs.declared.lexeme.Piece.TheVariants as piece
 use Rattle.hdc_lex.proofs.Classes.{Meets, meets, white_class, small_class, capital_class, symbol_class, digit_class, special_class}
 use Rattle.hdc_lex.proofs.Runs.{run_passes, take_one_more, take_two_more}
 use Rattle.hdc_lex.proofs.Longest.{lexeme_in, longest_number, number_in, longest_by, longest_at, radix_second, covers, longest_is, is_longest, none_found}
-use Rattle.hdc_lex.proofs.Stubs.{comment_read, comment_is, character_is, character_fault, string_is, string_fault}
+use Rattle.hdc_lex.proofs.NestedComments.{comment_read, comment_is}
+use Rattle.hdc_lex.proofs.Stubs.{character_is, character_fault, string_is, string_fault}
 
 -- what stands at the front by the definition, for what the function finds
 abbrev Stands : ℕ → List ℕ → Found → Type 0

@@ -1,5 +1,5 @@
 -- The lexemes of a text: it is a list of pieces in turn, and they are its lexemes in order, with their places.
-use Rattle.std.specs.Prelude.{◌≡◌, ℕ, ◌<◌, ◌≤◌, List, [], ◌∷◌, ◌++◌, length, take, drop, Bool, false, Result, Ok, Err}
+use Rattle.std.specs.Prelude.{◌≡◌, ℕ, ◌≤◌, List, [], ◌∷◌, ◌++◌, length, take, drop, Bool, false, Result, Ok, Err}
 use Rattle.std.specs.Str.{bytes_eq}
 use Rattle.hdc_base.specs.declared.place.At.{At}
 use Rattle.hdc_base.specs.declared.token.Word.{Word}
@@ -7,7 +7,7 @@ use Rattle.hdc_base.specs.declared.token.Word.TheVariants as word
 use Rattle.hdc_base.specs.declared.token.Token.{Token}
 use Rattle.hdc_lex.specs.Place.{first_place, behind_all}
 use Rattle.hdc_lex.specs.Numbers.{greatest_number}
-use Rattle.hdc_lex.specs.Pieces.{piece_at}
+use Rattle.hdc_lex.specs.Fronts.{IsPiece, IsFault}
 use Rattle.hdc_lex.specs.declared.lexeme.Form.{Form}
 use Rattle.hdc_lex.specs.declared.lexeme.Fault.{Fault}
 use Rattle.hdc_lex.specs.declared.lexeme.Fault.TheVariants as fault
@@ -45,7 +45,7 @@ tokens_of at piece.Comment = []
 -- the text begins with pieces that have these lexemes, of which the last is - or not; the rest of it begins at a place
 pub data Begins (form : Form) (text : List ℕ) : List Token → Bool → At → List ℕ → Type 0 where
   none : Begins form text [] false first_place text
-  more : (tokens : List Token) (minus : Bool) (at : At) (rest : List ℕ) (p : Piece) (size : ℕ) → Begins form text tokens minus at rest → piece_at (greatest_number form minus) rest ≡ Ok (p, size) → Begins form text (tokens ++ tokens_of at p) (minus_after minus p) (behind_all at (take size rest)) (drop size rest)
+  more : (tokens : List Token) (minus : Bool) (at : At) (rest : List ℕ) (p : Piece) (size : ℕ) → Begins form text tokens minus at rest → IsPiece (greatest_number form minus) rest p size → Begins form text (tokens ++ tokens_of at p) (minus_after minus p) (behind_all at (take size rest)) (drop size rest)
 
 -- the stop for a fault at the front of the rest of a text
 abbrev pub stop_of : At → List ℕ → Fault → LexStop
@@ -62,8 +62,8 @@ pub record IsStop (form : Form) (text : List ℕ) (s : LexStop) : Type 0 where
   pub found : Fault
   pub begins : Begins form text tokens minus at rest
   pub within : length tokens ≤ most_lexemes
-  pub some : 0 < length rest
-  pub none : piece_at (greatest_number form minus) rest ≡ Err found
+  pub wrong : IsFault (greatest_number form minus) rest found
+  pub none : (p : Piece) (size : ℕ) → IsPiece (greatest_number form minus) rest p size → ⊥
   pub told : s ≡ stop_of at rest found
 
 -- the lexeme at the place is one more than a text may have
@@ -75,7 +75,7 @@ pub record IsTooMany (form : Form) (text : List ℕ) (place : At) : Type 0 where
   pub size : ℕ
   pub begins : Begins form text tokens minus place rest
   pub count : length tokens ≡ most_lexemes
-  pub lexeme : piece_at (greatest_number form minus) rest ≡ Ok (piece.Lexeme w, size)
+  pub lexeme : IsPiece (greatest_number form minus) rest (piece.Lexeme w) size
 
 -- the text is a list of pieces with these lexemes
 pub record IsWhole (form : Form) (text : List ℕ) (tokens : List Token) : Type 0 where
@@ -92,3 +92,7 @@ Lexes form text (Err (stop.Byte place)) = IsStop form text (stop.Byte place)
 Lexes form text (Err (stop.Literal place)) = IsStop form text (stop.Literal place)
 Lexes form text (Err (stop.Unclosed place)) = IsStop form text (stop.Unclosed place)
 Lexes form text (Err stop.Want) = Unit {0}
+
+-- a text has one answer, but for want of memory
+abbrev pub OneAnswer : Form → List ℕ → Type 0
+OneAnswer form text = (first second : Result (List Token) LexStop) → Lexes form text first → Lexes form text second → (first ≡ Err stop.Want → ⊥) → (second ≡ Err stop.Want → ⊥) → first ≡ second

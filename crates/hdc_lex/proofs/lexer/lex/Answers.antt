@@ -1,10 +1,10 @@
-use Rattle.std.proofs.Common.{◌≤◌, length, take, drop, sym, ap, subst, ◌∙◌, arith, false, Ok}
+use Rattle.std.proofs.Common.{◌≤◌, length, take, drop, sym, ap, subst, ◌∙◌, arith, false, Ok, Err}
 use Rattle.hdc_lex.specs.Pieces.{piece_at}
 use Rattle.hdc_lex.specs.declared.lexeme.Piece.TheVariants as piece
-use Rattle.hdc_lex.proofs.Lexemes.{Reading, reading_none, reading_next, one_more_token, size_within, too_many}
+use Rattle.hdc_lex.proofs.Lexemes.{Reading, reading_none, reading_next, one_more_token, size_within, too_many, stopped}
 use Rattle.std.proofs.lemmas.List.{append-nil}
 use Rattle.hdc_lex.specs.Place.{behind_all}
-use Rattle.hdc_lex.specs.Lexing.{most_lexemes}
+use Rattle.hdc_lex.specs.Lexing.{most_lexemes, stop_of, Lexes}
 use Rattle.hdc_lex.proofs.lexer.lex.Goals.{in-White, in-Comment, in-Lexeme+else-len-ge131072+in_ok-push-in-Lexeme}
 use Rattle.hdc_lex.proofs.lexer.lex.Goals as goal
 
@@ -27,3 +27,9 @@ loop-offset-preserved c =
       | in-Comment w ↦ next piece.Comment c.in-Ok.size c.loop-offset.invariant (found ∙ ap (λ p. Ok (p, c.in-Ok.size)) w.in-Comment.is) within _ _ _ (w.tokens-is ∙ sym (append-nil c.loop-offset.tokens)) w.minus-is there (subst (λ ts. length ts ≤ most_lexemes) (sym w.tokens-is) c.loop-offset.invariant.count)
       | in-Lexeme+else-len-ge131072+in_ok-push-in-Lexeme w ↦ next (piece.Lexeme w.in-Lexeme.word) c.in-Ok.size c.loop-offset.invariant (found ∙ ap (λ p. Ok (p, c.in-Ok.size)) w.in-Lexeme.is) within _ _ _ (w.tokens-is ∙ w.in_ok-push-in-Lexeme.ensures.ok) (w.minus-is ∙ w.is_minus-minus.ensures) there (one_more_token c.loop-offset.tokens _ _ _ w.tokens-is w.in_ok-push-in-Lexeme.ensures.ok (omega (arith, w.if-len-ge131072.false, w.len.ensures)))
     ]
+
+pub returns-in-Err : goal.returns-in-Err
+returns-in-Err c =
+    let found = ap (λ g. piece_at g (drop c.loop-offset.offset c.args.text.now)) (sym c.greatest_number.ensures.found) ∙ ap (piece_at c.greatest_number.result) (sym c.behind-rest.ensures.rest) ∙ sym c.in_ok-piece.ensures.found ∙ c.in-Err.is in
+    let told = c.stop_of.ensures ∙ ap (λ rest. stop_of c.loop-offset.at rest c.in-Err.fault) c.behind-rest.ensures.rest in
+    subst (λ s. Lexes c.args.form c.args.text.now (Err s)) (sym told) (stopped c.args.form c.args.text.now c.loop-offset.tokens c.loop-offset.minus c.loop-offset.at c.loop-offset.offset c.in-Err.fault c.loop-offset.invariant found c.loop-offset-test.true)
