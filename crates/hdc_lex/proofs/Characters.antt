@@ -1,19 +1,11 @@
 -- Characters by their codes.
-use Rattle.std.proofs.Common.{◌≡◌, ℕ, ◌-◌, ◌^◌, refl, sym, ap, ◌∙◌, arith, Bool, true, false, cond, min, Ok, Err, Some}
-use Rattle.std.specs.Prelude.{nat_le}
-use Rattle.std.proofs.lemmas.Bool.Decides.{nat_tests}
-use Rattle.hdc_lex.specs.Characters.{coded}
+use Rattle.std.proofs.Common.{◌≡◌, ℕ, ◌-◌, ◌^◌, arith, min, Ok, Err, Some}
+use Rattle.hdc_lex.specs.Characters.{greatest_code, coded}
 use Rattle.hdc_lex.specs.declared.lexeme.Fault.TheVariants as fault
+use Rattle.hdc_lex.proofs.Numbers.{bounded}
 
--- a bound that is far behind the greatest code does not count
+-- a code that stops far behind the greatest is as good where it is compared
 pub coded_bound : (n size : ℕ) → coded (min n (2 ^ 64 - 1)) size ≡ coded n size
-coded_bound n size = by_test (nat_le n (2 ^ 64 - 1)) refl
-  where
-    by_test : (test : Bool) → nat_le n (2 ^ 64 - 1) ≡ test → coded (min n (2 ^ 64 - 1)) size ≡ coded n size
-    by_test true e = let m : min n (2 ^ 64 - 1) ≡ n = grind (arith, nat_tests, e) in ap (λ k. coded k size) m
-    by_test false e =
-        let m : min n (2 ^ 64 - 1) ≡ 2 ^ 64 - 1 = grind (arith, nat_tests, e) in
-        let past : nat_le n 1114111 ≡ false = grind (arith, nat_tests, e) in
-        ap (λ k. coded k size) m ∙ sym (ap (λ t. cond t (Ok (Some n, size)) (Err fault.Literal)) past)
+coded_bound n size = bounded greatest_code n (λ code. Ok (Some code, size)) (Err fault.Literal) (omega arith)
 
 pub ruleset code_steps = (coded_bound)

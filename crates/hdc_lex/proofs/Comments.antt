@@ -3,7 +3,8 @@ use Rattle.std.proofs.Common.{◌≡◌, ℕ, ◌+◌, ◌-◌, ◌≤◌, List,
 use Rattle.std.proofs.lemmas.List.{drop-drop}
 use Rattle.std.proofs.lemmas.Bool.{false≢true}
 use Rattle.std.proofs.lemmas.Bool.Decides.{nat_tests}
-use Rattle.hdc_lex.specs.Pieces.{more_by, begins_with_both, comment_end}
+use Rattle.hdc_lex.specs.Pieces.{more_by, comment_end}
+use Rattle.hdc_lex.specs.Grammar.{begins_with_both}
 
 pub more_twice : (n m : ℕ) (size : Option ℕ) → more_by n (more_by m size) ≡ more_by (n + m) size
 more_twice n m None = refl

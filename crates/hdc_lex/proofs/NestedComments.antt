@@ -2,7 +2,8 @@
 use Rattle.std.proofs.Common.{◌≡◌, ℕ, zero, suc, ◌+◌, ◌-◌, ◌<◌, ◌≤◌, List, [], ◌∷◌, ◌++◌, length, refl, sym, ap, ◌∙◌, arith, Bool, true, false, cond, ◌==◌, Option, Some, None}
 use Rattle.std.proofs.lemmas.List.{append_assoc, length-append}
 use Rattle.std.proofs.lemmas.Bool.Decides.{nat_tests}
-use Rattle.hdc_lex.specs.Pieces.{more_by, begins_with_both, comment_end}
+use Rattle.hdc_lex.specs.Pieces.{more_by, comment_end}
+use Rattle.hdc_lex.specs.Grammar.{begins_with_both}
 use Rattle.hdc_lex.specs.Fronts.{EndsComment, close, nested, other}
 use Rattle.hdc_lex.proofs.Comments.{more_twice, opened, closed, walked}
 

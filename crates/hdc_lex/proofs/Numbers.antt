@@ -16,16 +16,19 @@ one_more radix digits i h = ap (number_of radix) (take_more digits i 0 h) ∙ jo
 
 pub ruleset value_steps = (one_more)
 
--- a bound that is not reached does not count
-pub within_bound : (greatest n size : ℕ) → greatest ≤ 2 ^ 63 → number_within greatest (min n (2 ^ 64 - 1)) size ≡ number_within greatest n size
-within_bound greatest n size h = by_test (nat_le n (2 ^ 64 - 1)) refl
+-- a choice below a bound is the same where numbers stop at a greater one
+pub bounded : {A : Type 0} (greatest n : ℕ) (found : ℕ → A) (none : A) → greatest ≤ 2 ^ 63 → cond (nat_le (min n (2 ^ 64 - 1)) greatest) (found (min n (2 ^ 64 - 1))) none ≡ cond (nat_le n greatest) (found n) none
+bounded greatest n found none h = by_test (nat_le n (2 ^ 64 - 1)) refl
   where
-    by_test : (test : Bool) → nat_le n (2 ^ 64 - 1) ≡ test → number_within greatest (min n (2 ^ 64 - 1)) size ≡ number_within greatest n size
-    by_test true e = let m : min n (2 ^ 64 - 1) ≡ n = grind (arith, nat_tests, e) in ap (λ k. number_within greatest k size) m
+    by_test : (test : Bool) → nat_le n (2 ^ 64 - 1) ≡ test → cond (nat_le (min n (2 ^ 64 - 1)) greatest) (found (min n (2 ^ 64 - 1))) none ≡ cond (nat_le n greatest) (found n) none
+    by_test true e = let m : min n (2 ^ 64 - 1) ≡ n = grind (arith, nat_tests, e) in ap (λ k. cond (nat_le k greatest) (found k) none) m
     by_test false e =
-        let m : min n (2 ^ 64 - 1) ≡ 2 ^ 64 - 1 = grind (arith, nat_tests, e) in
         let past : nat_le n greatest ≡ false = grind (arith, nat_tests, e, h) in
-        let past_bound : nat_le (2 ^ 64 - 1) greatest ≡ false = grind (arith, nat_tests, h) in
-        ap (λ k. number_within greatest k size) m ∙ ap (λ t. cond t (Ok (2 ^ 64 - 1, size)) (Err fault.Literal)) past_bound ∙ sym (ap (λ t. cond t (Ok (n, size)) (Err fault.Literal)) past)
+        let past_bound : nat_le (min n (2 ^ 64 - 1)) greatest ≡ false = grind (arith, nat_tests, e, h) in
+        ap (λ t. cond t (found (min n (2 ^ 64 - 1))) none) past_bound ∙ sym (ap (λ t. cond t (found n) none) past)
+
+-- a number that stops there is as good where it is compared
+pub within_bound : (greatest n size : ℕ) → greatest ≤ 2 ^ 63 → number_within greatest (min n (2 ^ 64 - 1)) size ≡ number_within greatest n size
+within_bound greatest n size h = bounded greatest n (λ k. Ok (k, size)) (Err fault.Literal) h
 
 pub ruleset number_steps = (within_bound)

@@ -19,24 +19,12 @@ use Rattle.hdc_lex.specs.declared.lexeme.Piece.{Piece}
 use Rattle.hdc_lex.specs.declared.lexeme.Piece.TheVariants as piece
 use Rattle.hdc_lex.specs.declared.lexer.LexStop.{LexStop}
 use Rattle.hdc_lex.specs.declared.lexer.LexStop.TheVariants as stop
-use Rattle.hdc_lex.proofs.OnePiece.{same_piece, same_fault, piece_some}
-
--- a lexeme has a byte
-lexeme_some : (bytes : List ℕ) (w : Word) → IsLexeme bytes w → bytes ≡ [] → ⊥
-lexeme_some bytes w (small b bs h g) e = cc
-lexeme_some bytes w (capital b bs h g) e = cc
-lexeme_some bytes w (symbols bs h) e = false≢true (sym (ap (is_run is_symbol) e) ∙ h)
-lexeme_some bytes w (decimal digits h) e = false≢true (sym (ap (is_run is_digit) e) ∙ h)
-lexeme_some bytes w (hexadecimal x digits h g) e = cc
-lexeme_some bytes w (octal o digits h g) e = cc
-lexeme_some bytes w (character bs code h) e = cc
-lexeme_some bytes w (string bs codes h) e = cc
-lexeme_some bytes w (special b k h) e = cc
+use Rattle.hdc_lex.proofs.OnePiece.{lexeme_some, same_piece, same_fault, piece_some}
 
 -- at the end of a text there is no fault
 fault_some : (greatest : ℕ) (text : List ℕ) (f : Fault) → IsFault greatest text f → 0 < length text
 fault_some greatest (b ∷ bs) f h = omega arith
-fault_some greatest [] f (number size w g longest h) = absurd (lexeme_some (take size []) w longest.lexeme (take-nil size))
+fault_some greatest [] f (number size w g longest h) = absurd (omega (arith, lexeme_some (take size []) w longest.lexeme, ap length (take-nil {A = ℕ} size)))
 fault_some greatest [] f (comment h g) = absurd (false≢true h)
 fault_some greatest [] f (literal n h g first) = absurd (false≢true h)
 fault_some greatest [] f (byte h some g) = some

@@ -6,7 +6,7 @@ use Rattle.hdc_base.specs.declared.token.Word.TheVariants as word
 use Rattle.hdc_lex.specs.Bytes.{is_white, is_digit, is_symbol, is_one_of}
 use Rattle.hdc_lex.specs.Numbers.{has_fraction}
 use Rattle.hdc_lex.specs.Characters.{stop_at}
-use Rattle.hdc_lex.specs.Pieces.{begins_with_both}
+use Rattle.hdc_lex.specs.Grammar.{begins_with_both}
 use Rattle.hdc_lex.specs.Grammar.{begins_with_member, IsLexeme}
 use Rattle.hdc_lex.specs.declared.lexeme.Fault.{Fault}
 use Rattle.hdc_lex.specs.declared.lexeme.Fault.TheVariants as fault

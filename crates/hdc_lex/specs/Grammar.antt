@@ -20,6 +20,12 @@ abbrev pub begins_with_member : (ℕ → Bool) → List ℕ → Bool
 begins_with_member is_member [] = false
 begins_with_member is_member (b ∷ bs) = is_member b
 
+-- two bytes stand at the front
+abbrev pub begins_with_both : ℕ → ℕ → List ℕ → Bool
+begins_with_both first second (a ∷ b ∷ rest) = (a == first) && (b == second)
+begins_with_both first second (a ∷ []) = false
+begins_with_both first second [] = false
+
 -- the special bytes and their keys
 pub data IsSpecial : ℕ → Key → Type 0 where
   open_paren : IsSpecial 40 key.KOpenParen

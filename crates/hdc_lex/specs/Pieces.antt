@@ -8,6 +8,7 @@ use Rattle.hdc_lex.specs.Bytes.{class_of, is_name_byte, is_symbol}
 use Rattle.hdc_lex.specs.Words.{variable, symbol}
 use Rattle.hdc_lex.specs.Numbers.{number_at}
 use Rattle.hdc_lex.specs.Characters.{Character, character_at, stop_at}
+use Rattle.hdc_lex.specs.Grammar.{begins_with_both}
 use Rattle.hdc_lex.specs.declared.class.Class.{Class}
 use Rattle.hdc_lex.specs.declared.class.Class.TheVariants as class
 use Rattle.hdc_lex.specs.declared.lexeme.Fault.{Fault}
@@ -24,11 +25,6 @@ further n fault.Unclosed = fault.Unclosed
 abbrev pub more_by : ℕ → Option ℕ → Option ℕ
 more_by n None = None
 more_by n (Some size) = Some (n + size)
-
-abbrev pub begins_with_both : ℕ → ℕ → List ℕ → Bool
-begins_with_both first second (a ∷ b ∷ rest) = (a == first) && (b == second)
-begins_with_both first second (a ∷ []) = false
-begins_with_both first second [] = false
 
 -- how many bytes lead to the end of a comment with so many openings, where it has an end: {- opens one more, and -}
 -- closes the last opened

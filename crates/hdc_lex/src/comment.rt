@@ -1,7 +1,8 @@
 //! Comments.
 
 ghost use Rattle.std.specs.Prelude.{◌≡◌, ◌≤◌, ◌<◌, length, IfSome, true};
-ghost use Rattle.hdc_lex.specs.Pieces.{begins_with_both, comment_end};
+ghost use Rattle.hdc_lex.specs.Pieces.{comment_end};
+ghost use Rattle.hdc_lex.specs.Grammar.{begins_with_both};
 
 use crate::run::behind;
 

@@ -1,5 +1,5 @@
 use Rattle.std.proofs.Common.{length, sym, ap, ◌∙◌, arith}
-use Rattle.hdc_lex.specs.Pieces.{begins_with_both}
+use Rattle.hdc_lex.specs.Grammar.{begins_with_both}
 use Rattle.hdc_lex.proofs.Comments.{one_opened, one_closed, one_walked}
 use Rattle.hdc_lex.proofs.comment.comment_end.Goals as goal
 
