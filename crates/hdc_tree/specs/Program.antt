@@ -1,9 +1,11 @@
 -- The programs of this form.
-use Rattle.std.specs.Prelude.{ℕ, ◌≤◌, List, ◌∷◌}
+use Rattle.std.specs.Prelude.{◌≡◌, ℕ, ◌≤◌, List, ◌∷◌}
 use Rattle.hdc_base.specs.declared.place.At.{At}
+use Rattle.hdc_base.specs.declared.token.Token as text_token
 use Rattle.hdc_tree.specs.declared.token.Word.TheVariants.{Main, Equal}
+use Rattle.hdc_tree.specs.declared.token.Token.{Token}
 use Rattle.hdc_tree.specs.Tree.{Tree}
-use Rattle.hdc_tree.specs.Lexemes.{Lexes}
+use Rattle.hdc_tree.specs.Lexemes.{AreTokens, braced}
 use Rattle.hdc_tree.specs.Spelling.{tokens_of, IsOperatorTree, operator_count, nesting}
 
 -- the most operators that a program of this form may have
@@ -14,15 +16,23 @@ most_operators = 500
 abbrev pub most_open : ℕ
 most_open = 200
 
--- the text is one line: main, the sign = and the tokens of the tree
-pub record IsProgram (text : List ℕ) (tree : Tree) : Type 0 where
+-- the tokens of a program: main, the sign = and the tokens of the tree
+abbrev pub program_tokens : At → At → Tree → List Token
+program_tokens name sign tree = record { at = name; word = Main } ∷ record { at = sign; word = Equal } ∷ tokens_of tree
+
+-- the tokens of a text are those of the program with this tree, in braces
+pub record IsProgram (lexemes : List text_token.Token) (tree : Tree) : Type 0 where
+  pub open_at : At
+  pub close_at : At
+  pub inner : List text_token.Token
+  pub block : lexemes ≡ braced open_at inner close_at
   pub name : At
   pub sign : At
-  pub tokens : Lexes 1 text (record { at = name; word = Main } ∷ record { at = sign; word = Equal } ∷ tokens_of tree)
+  pub tokens : AreTokens inner (program_tokens name sign tree)
   pub operators : IsOperatorTree tree
   pub few : operator_count tree ≤ most_operators
   pub shallow : nesting tree ≤ most_open
 
--- the text spells no tree
-abbrev pub SpellsNone : List ℕ → Type 0
-SpellsNone text = (tree : Tree) → IsProgram text tree → ⊥
+-- the tokens spell no tree
+abbrev pub SpellsNone : List text_token.Token → Type 0
+SpellsNone lexemes = (tree : Tree) → IsProgram lexemes tree → ⊥

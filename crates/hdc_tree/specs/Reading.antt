@@ -1,41 +1,97 @@
 -- Reading as functions on lists, which the laws in proofs/ tie to the definitions.
-use Rattle.std.specs.Prelude.{◌≡◌, ℕ, ◌^◌, List, [], ◌∷◌, length, codes, Option, Some, None, Bool, true, false, ◌==◌, nat_eq, nat_lt, nat_le, if◌then◌else◌, drop, pos}
-use Rattle.std.specs.List.{starts_with, prefix_len, take_while, count_by}
+use Rattle.std.specs.Prelude.{ℕ, ◌^◌, List, [], ◌∷◌, length, codes, Option, Some, None, Bool, true, false, nat_lt, nat_le, if◌then◌else◌, pos}
+use Rattle.std.specs.List.{count_by}
+use Rattle.std.specs.Str.{bytes_eq}
 use Rattle.std.specs.Option.{option_and_then}
 use Rattle.hdc_base.specs.declared.place.At.{At}
+use Rattle.hdc_base.specs.declared.token.Key.{Key}
+use Rattle.hdc_base.specs.declared.token.Key.TheVariants as key
+use Rattle.hdc_base.specs.declared.token.Word as text_word
+use Rattle.hdc_base.specs.declared.token.Word.TheVariants as text
+use Rattle.hdc_base.specs.declared.token.Token as text_token
 use Rattle.hdc_value.specs.declared.arithmetic.Op.{Op}
 use Rattle.hdc_value.specs.declared.arithmetic.Op.TheVariants.{Add, Sub, Mul}
 use Rattle.hdc_tree.specs.declared.token.Word.{Word}
 use Rattle.hdc_tree.specs.declared.token.Word.TheVariants.{Main, Equal, Num, Operator, Open, Close}
 use Rattle.hdc_tree.specs.declared.token.Token.{Token}
 use Rattle.hdc_tree.specs.Tree.{Tree, literal, binary, paren}
-use Rattle.hdc_tree.specs.Lexemes.{is_digit, number_after, Lexes}
 use Rattle.hdc_tree.specs.Program.{most_operators, most_open}
 
-abbrev pub is_space : ℕ → Bool
-is_space b = b == 32
+-- the operator of a name
+abbrev pub operator_word : List ℕ → Option Word
+operator_word name = if bytes_eq name (codes "+") then Some (Operator Add) else (if bytes_eq name (codes "-") then Some (Operator Sub) else (if bytes_eq name (codes "*") then Some (Operator Mul) else None))
 
--- how many spaces the text begins with
-abbrev pub space_count : List ℕ → ℕ
-space_count text = prefix_len is_space text
+-- the word of a key
+abbrev pub key_word : Key → Option Word
+key_word key.KCase = None
+key_word key.KClass = None
+key_word key.KData = None
+key_word key.KDefault = None
+key_word key.KDeriving = None
+key_word key.KDo = None
+key_word key.KElse = None
+key_word key.KIf = None
+key_word key.KImport = None
+key_word key.KIn = None
+key_word key.KInfix = None
+key_word key.KInfixl = None
+key_word key.KInfixr = None
+key_word key.KInstance = None
+key_word key.KLet = None
+key_word key.KModule = None
+key_word key.KNewtype = None
+key_word key.KOf = None
+key_word key.KThen = None
+key_word key.KType = None
+key_word key.KWhere = None
+key_word key.KUnderscore = None
+key_word key.KDots = None
+key_word key.KColon = None
+key_word key.KDoubleColon = None
+key_word key.KEqual = Some Equal
+key_word key.KBackslash = None
+key_word key.KBar = None
+key_word key.KLeftArrow = None
+key_word key.KRightArrow = None
+key_word key.KAt = None
+key_word key.KTilde = None
+key_word key.KDoubleArrow = None
+key_word key.KOpenParen = Some Open
+key_word key.KCloseParen = Some Close
+key_word key.KComma = None
+key_word key.KSemicolon = None
+key_word key.KOpenBracket = None
+key_word key.KCloseBracket = None
+key_word key.KOpenBrace = None
+key_word key.KCloseBrace = None
+key_word key.KBackquote = None
 
--- the text behind them
-abbrev pub after_spaces : List ℕ → List ℕ
-after_spaces text = drop (space_count text) text
+-- the word of arithmetic that a word of a text is
+abbrev pub word_of : text_word.Word → Option Word
+word_of (text.Var name) = if bytes_eq name (codes "main") then Some Main else None
+word_of (text.Con name) = None
+word_of (text.Sym name) = operator_word name
+word_of (text.Num n) = if nat_lt n (2 ^ 63) then Some (Num (pos n)) else None
+word_of (text.Chr code) = None
+word_of (text.Str codes) = None
+word_of (text.Key k) = key_word k
 
--- the literal of these digits, with how many they are
-abbrev pub literal_word : List ℕ → Option (Word × ℕ)
-literal_word digits = if nat_lt (number_after 0 digits) (2 ^ 63) then Some (Num (pos (number_after 0 digits)), length digits) else None
+abbrev pub token_at : At → Option Word → Option Token
+token_at at (Some word) = Some (record { at = at; word = word })
+token_at at None = None
 
--- the longest word that begins the text, with the number of its bytes
-abbrev pub word_at : List ℕ → Option (Word × ℕ)
-word_at [] = None
-word_at (b ∷ bs) = if b == 61 then Some (Equal, 1) else (if b == 43 then Some (Operator Add, 1) else (if b == 45 then Some (Operator Sub, 1) else (if b == 42 then Some (Operator Mul, 1) else (if b == 40 then Some (Open, 1) else (if b == 41 then Some (Close, 1) else (if is_digit b then literal_word (take_while is_digit (b ∷ bs)) else (if starts_with nat_eq (b ∷ bs) (codes "main") then Some (Main, 4) else None)))))))
+abbrev pub token_of : text_token.Token → Option Token
+token_of lexeme = token_at lexeme.at (word_of lexeme.word)
 
--- the text begins with the token, whichever tokens it has, and goes on so
-pub record Continues (col : ℕ) (text : List ℕ) (token : Token) (next_col : ℕ) (rest : List ℕ) : Type 0 where
-  pub forward : (tokens : List Token) → Lexes next_col rest tokens → Lexes col text (token ∷ tokens)
-  pub back : (tokens : List Token) → Lexes col text tokens → (others : List Token) × (tokens ≡ token ∷ others) × Lexes next_col rest others
+abbrev pub with_first : Option Token → Option (List Token) → Option (List Token)
+with_first (Some token) (Some tokens) = Some (token ∷ tokens)
+with_first (Some token) None = None
+with_first None tokens = None
+
+-- the tokens of arithmetic that the tokens of a text are
+abbrev pub tokens_in : List text_token.Token → Option (List Token)
+tokens_in [] = Some []
+tokens_in (lexeme ∷ lexemes) = with_first (token_of lexeme) (tokens_in lexemes)
 
 -- a sum that waits for its right operand, with its operator and the operator's place
 abbrev pub Waiting : Type 0

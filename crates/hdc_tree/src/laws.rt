@@ -1,10 +1,11 @@
 //! Laws of the definitions.
 
-ghost use Rattle.std.specs.Prelude.{◌≡◌, ℕ, List};
+ghost use Rattle.std.specs.Prelude.{◌≡◌, List};
+ghost use Rattle.hdc_base.specs.declared.token.Token.{Token};
 ghost use Rattle.hdc_tree.specs.Tree.{Tree};
 ghost use Rattle.hdc_tree.specs.Program.{IsProgram};
 
-/// No text spells two trees.
+/// No tokens spell two trees.
 pub fn one_tree()
-    ensures { (text : List ℕ) (first second : Tree) → IsProgram text first → IsProgram text second → first ≡ second }
+    ensures { (tokens : List Token) (first second : Tree) → IsProgram tokens first → IsProgram tokens second → first ≡ second }
 {}
