@@ -4,3 +4,4 @@ pub mod Characters
 pub mod Comments
 pub mod Strings
 pub mod Lexemes
+pub mod Runs
