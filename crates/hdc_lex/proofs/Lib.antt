@@ -5,3 +5,4 @@ pub mod Comments
 pub mod Strings
 pub mod Lexemes
 pub mod Runs
+pub mod Escapes

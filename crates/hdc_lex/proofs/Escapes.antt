@@ -1,0 +1,119 @@
+-- What stands behind a backslash: an escape, or the first byte that is in no escape.
+use Rattle.std.proofs.Common.{◌≡◌, ℕ, suc, ◌+◌, ◌*◌, ◌<◌, ◌≤◌, List, [], ◌∷◌, ◌++◌, length, get_or, take, refl, sym, ap, subst, ◌∙◌, arith, Bool, true, false, cond, ◌==◌, is_err, Option, Some, None, Ok, Err}
+use Rattle.std.specs.Prelude.{nat_le}
+use Rattle.std.specs.List.{list_all, prefix_len}
+use Rattle.std.proofs.lemmas.Bool.{false≢true, and_from, and_parts, eqb-true, leb-true, leb-false, le-leb, lt-leb, ne_eqb}
+use Rattle.std.proofs.lemmas.Bool.Decides.{nat_tests}
+use Rattle.std.proofs.lemmas.List.{append-nil, append_assoc, length-append, take_at}
+use Rattle.std.proofs.lemmas.List.Folds.{list_all-append}
+use Rattle.hdc_lex.specs.Bytes.{is_digit, is_hexadecimal, is_octal, is_printable}
+use Rattle.hdc_lex.specs.Numbers.{digit_value, number_after, number_of}
+use Rattle.hdc_lex.specs.Characters.{Character, greatest_code, stop_at, simple_escape, coded, code_escape, simple_character, escape_at}
+use Rattle.hdc_lex.specs.Grammar.{is_run, begins_with_member, IsEscape}
+use Rattle.hdc_lex.specs.declared.lexeme.Fault.{Fault}
+use Rattle.hdc_lex.specs.declared.lexeme.Fault.TheVariants as fault
+use Rattle.hdc_lex.proofs.Numbers.{joined}
+use Rattle.hdc_lex.proofs.Runs.{run_of, prefix_of_run, begins_with_none, number_grows, Over, first_over}
+
+-- the digits of a radix in an escape, and the bytes before them
+record Digits (is_more : ℕ → Bool) (radix : ℕ) (lead : List ℕ) : Type 0 where
+  some : 0 < radix
+  fits : (b : ℕ) → is_more b ≡ true → digit_value b ≤ greatest_code
+  literal : (n b : ℕ) (bs : List ℕ) → is_more b ≡ true → stop_at n (b ∷ bs) ≡ fault.Literal
+  escape : (digits : List ℕ) → is_run is_more digits ≡ true → number_of radix digits ≤ greatest_code → IsEscape is_more (lead ++ digits) (number_of radix digits)
+  reads : (quote b : ℕ) (bs : List ℕ) → is_more b ≡ true → escape_at quote (lead ++ (b ∷ bs)) ≡ code_escape radix (1 + length lead) (prefix_len is_more (b ∷ bs)) (b ∷ bs)
+
+decimal_fits : (b : ℕ) → is_digit b ≡ true → digit_value b ≤ greatest_code
+decimal_fits b h = grind (arith, nat_tests)
+
+hexadecimal_fits : (b : ℕ) → is_hexadecimal b ≡ true → digit_value b ≤ greatest_code
+hexadecimal_fits b h = grind (arith, nat_tests)
+
+octal_fits : (b : ℕ) → is_octal b ≡ true → digit_value b ≤ greatest_code
+octal_fits b h = grind (arith, nat_tests)
+
+-- a printable byte makes a literal malformed
+printable_stops : (n b : ℕ) (bs : List ℕ) → 32 ≤ b → b ≤ 126 → stop_at n (b ∷ bs) ≡ fault.Literal
+printable_stops n b bs low high = grind (arith, nat_tests)
+
+decimal_literal : (n b : ℕ) (bs : List ℕ) → is_digit b ≡ true → stop_at n (b ∷ bs) ≡ fault.Literal
+decimal_literal n b bs h = printable_stops n b bs (grind (arith, nat_tests)) (grind (arith, nat_tests))
+
+hexadecimal_literal : (n b : ℕ) (bs : List ℕ) → is_hexadecimal b ≡ true → stop_at n (b ∷ bs) ≡ fault.Literal
+hexadecimal_literal n b bs h = printable_stops n b bs (grind (arith, nat_tests)) (grind (arith, nat_tests))
+
+octal_literal : (n b : ℕ) (bs : List ℕ) → is_octal b ≡ true → stop_at n (b ∷ bs) ≡ fault.Literal
+octal_literal n b bs h = printable_stops n b bs (grind (arith, nat_tests)) (grind (arith, nat_tests))
+
+-- the escape behind a backslash by the tests on its first byte
+abbrev escape_by : (digit hexadecimal octal empty : Bool) (simple : Option ℕ) (quote b : ℕ) (bs : List ℕ) → Character
+escape_by digit hexadecimal octal empty simple quote b bs =
+    cond digit (code_escape 10 1 (prefix_len is_digit (b ∷ bs)) (b ∷ bs)) (cond hexadecimal (code_escape 16 2 (prefix_len is_hexadecimal bs) bs) (cond octal (code_escape 8 2 (prefix_len is_octal bs) bs) (cond empty (cond (quote == 34) (Ok (None, 2)) (Err fault.Literal)) (simple_character simple (b ∷ bs)))))
+
+decimal_reads : (quote b : ℕ) (bs : List ℕ) → is_digit b ≡ true → escape_at quote (b ∷ bs) ≡ code_escape 10 1 (prefix_len is_digit (b ∷ bs)) (b ∷ bs)
+decimal_reads quote b bs h = ap (λ t. escape_by t (b == 120) (b == 111) (b == 38) (simple_escape b) quote b bs) h
+
+decimal_digits : Digits is_digit 10 []
+decimal_digits = record { some = omega arith; fits = decimal_fits; literal = decimal_literal; escape = λ digits run fits. IsEscape.decimal digits run fits; reads = decimal_reads }
+
+hexadecimal_digits : Digits is_hexadecimal 16 (120 ∷ [])
+hexadecimal_digits = record { some = omega arith; fits = hexadecimal_fits; literal = hexadecimal_literal; escape = λ digits run fits. IsEscape.hexadecimal digits run fits; reads = λ quote b bs h. refl }
+
+octal_digits : Digits is_octal 8 (111 ∷ [])
+octal_digits = record { some = omega arith; fits = octal_fits; literal = octal_literal; escape = λ digits run fits. IsEscape.octal digits run fits; reads = λ quote b bs h. refl }
+
+-- an escape that has digits is read by their number
+some_digits : (radix offset size : ℕ) (text : List ℕ) → 0 < size → code_escape radix offset size text ≡ coded (number_of radix (take size text)) (offset + size)
+some_digits radix offset size text some = ap (λ t. cond t (Err (stop_at offset text)) (coded (number_of radix (take size text)) (offset + size))) (ne_eqb size 0 (λ e. omega (arith, some, e)))
+
+-- what digits make of the rest of an escape
+digits_read : (is_more : ℕ → Bool) (radix : ℕ) (lead : List ℕ) → Digits is_more radix lead → (quote b : ℕ) (bs rest : List ℕ) → list_all is_more (b ∷ bs) ≡ true → begins_with_member is_more rest ≡ false → escape_at quote (lead ++ ((b ∷ bs) ++ rest)) ≡ coded (number_of radix (b ∷ bs)) (1 + length lead + length (b ∷ bs))
+digits_read is_more radix lead d quote b bs rest all ends =
+    let here = (and_parts (is_more b) (list_all is_more bs) all).0 in
+    let size = prefix_of_run is_more (b ∷ bs) rest all ends in
+    d.reads quote b (bs ++ rest) here
+      ∙ ap (λ n. code_escape radix (1 + length lead) n (b ∷ (bs ++ rest))) size
+      ∙ some_digits radix (1 + length lead) (length (b ∷ bs)) (b ∷ (bs ++ rest)) (omega arith)
+      ∙ ap (λ digits. coded (number_of radix digits) (1 + length lead + length (b ∷ bs))) (take_at (b ∷ bs) rest (length (b ∷ bs)) refl)
+
+-- the same, where the number is small enough
+digits_fit : (is_more : ℕ → Bool) (radix : ℕ) (lead : List ℕ) → Digits is_more radix lead → (quote b : ℕ) (bs rest : List ℕ) → list_all is_more (b ∷ bs) ≡ true → begins_with_member is_more rest ≡ false → number_of radix (b ∷ bs) ≤ greatest_code → escape_at quote (lead ++ ((b ∷ bs) ++ rest)) ≡ Ok (Some (number_of radix (b ∷ bs)), suc (length (lead ++ (b ∷ bs))))
+digits_fit is_more radix lead d quote b bs rest all ends fits =
+    let size : 1 + length lead + length (b ∷ bs) ≡ suc (length (lead ++ (b ∷ bs))) = omega (arith, length-append lead (b ∷ bs)) in
+    digits_read is_more radix lead d quote b bs rest all ends
+      ∙ ap (λ t. cond t (Ok (Some (number_of radix (b ∷ bs)), 1 + length lead + length (b ∷ bs))) (Err fault.Literal)) (le-leb (number_of radix (b ∷ bs)) greatest_code fits)
+      ∙ ap (λ n. Ok (Some (number_of radix (b ∷ bs)), n)) size
+
+-- the same, where it is too large
+digits_pass : (is_more : ℕ → Bool) (radix : ℕ) (lead : List ℕ) → Digits is_more radix lead → (quote b : ℕ) (bs rest : List ℕ) → list_all is_more (b ∷ bs) ≡ true → begins_with_member is_more rest ≡ false → greatest_code < number_of radix (b ∷ bs) → escape_at quote (lead ++ ((b ∷ bs) ++ rest)) ≡ Err fault.Literal
+digits_pass is_more radix lead d quote b bs rest all ends over =
+    digits_read is_more radix lead d quote b bs rest all ends
+      ∙ ap (λ t. cond t (Ok (Some (number_of radix (b ∷ bs)), 1 + length lead + length (b ∷ bs))) (Err fault.Literal)) (lt-leb (number_of radix (b ∷ bs)) greatest_code over)
+
+-- what one byte behind a backslash makes, where it begins no longer escape
+record BeginsShort (b : ℕ) : Type 0 where
+  digit : is_digit b ≡ false
+  hexadecimal : (b == 120) ≡ false
+  octal : (b == 111) ≡ false
+  empty : (b == 38) ≡ false
+
+simple_is_short : (b code : ℕ) → simple_escape b ≡ Some code → BeginsShort b
+simple_is_short b code h = record { digit = grind (arith, nat_tests); hexadecimal = grind (arith, nat_tests); octal = grind (arith, nat_tests); empty = grind (arith, nat_tests) }
+
+short_read : (quote b : ℕ) (bs : List ℕ) → BeginsShort b → escape_at quote (b ∷ bs) ≡ simple_character (simple_escape b) (b ∷ bs)
+short_read quote b bs s =
+    ap (λ t. escape_by t (b == 120) (b == 111) (b == 38) (simple_escape b) quote b bs) s.digit
+      ∙ ap (λ t. escape_by false t (b == 111) (b == 38) (simple_escape b) quote b bs) s.hexadecimal
+      ∙ ap (λ t. escape_by false false t (b == 38) (simple_escape b) quote b bs) s.octal
+      ∙ ap (λ t. escape_by false false false t (simple_escape b) quote b bs) s.empty
+
+run_read : (is_more : ℕ → Bool) (radix : ℕ) (lead : List ℕ) → Digits is_more radix lead → (quote : ℕ) (digits rest : List ℕ) → is_run is_more digits ≡ true → number_of radix digits ≤ greatest_code → begins_with_member is_more rest ≡ false → escape_at quote (lead ++ (digits ++ rest)) ≡ Ok (Some (number_of radix digits), suc (length (lead ++ digits)))
+run_read is_more radix lead d quote [] rest run fits ends = absurd (false≢true run)
+run_read is_more radix lead d quote (b ∷ bs) rest run fits ends = digits_fit is_more radix lead d quote b bs rest run ends fits
+
+-- an escape is read, whatever follows it that does not make it longer
+pub escape_read : (is_more : ℕ → Bool) (bytes : List ℕ) (code quote : ℕ) (rest : List ℕ) → IsEscape is_more bytes code → begins_with_member is_more rest ≡ false → escape_at quote (bytes ++ rest) ≡ Ok (Some code, suc (length bytes))
+escape_read is_more bytes code quote rest (IsEscape.simple b c e) ends = short_read quote b rest (simple_is_short b c e) ∙ ap (λ s. simple_character s (b ∷ rest)) e
+escape_read is_more bytes code quote rest (IsEscape.decimal digits run fits) ends = run_read is_digit 10 [] decimal_digits quote digits rest run fits ends
+escape_read is_more bytes code quote rest (IsEscape.hexadecimal digits run fits) ends = run_read is_hexadecimal 16 (120 ∷ []) hexadecimal_digits quote digits rest run fits ends
+escape_read is_more bytes code quote rest (IsEscape.octal digits run fits) ends = run_read is_octal 8 (111 ∷ []) octal_digits quote digits rest run fits ends
