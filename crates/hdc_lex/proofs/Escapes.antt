@@ -117,3 +117,67 @@ escape_read is_more bytes code quote rest (IsEscape.simple b c e) ends = short_r
 escape_read is_more bytes code quote rest (IsEscape.decimal digits run fits) ends = run_read is_digit 10 [] decimal_digits quote digits rest run fits ends
 escape_read is_more bytes code quote rest (IsEscape.hexadecimal digits run fits) ends = run_read is_hexadecimal 16 (120 ∷ []) hexadecimal_digits quote digits rest run fits ends
 escape_read is_more bytes code quote rest (IsEscape.octal digits run fits) ends = run_read is_octal 8 (111 ∷ []) octal_digits quote digits rest run fits ends
+
+-- what a text behind a backslash is: an escape, \& in a string, or bytes that begin an escape with a byte behind them with
+-- which none begins
+pub data EscapeView (quote : ℕ) (text : List ℕ) : Character → Type 0 where
+  read : (is_more : ℕ → Bool) (bytes rest : List ℕ) (code : ℕ) → text ≡ bytes ++ rest → IsEscape is_more bytes code → begins_with_member is_more rest ≡ false → EscapeView quote text (Ok (Some code, suc (length bytes)))
+  empty : (rest : List ℕ) → quote ≡ 34 → text ≡ 38 ∷ rest → EscapeView quote text (Ok (None, 2))
+  stops : (is_more : ℕ → Bool) (front more rest : List ℕ) (code : ℕ) → text ≡ front ++ rest → IsEscape is_more (front ++ more) code → ((b : ℕ) (bs others : List ℕ) → rest ≡ b ∷ bs → is_err (escape_at quote (front ++ (b ∷ others))) ≡ true) → EscapeView quote text (Err (stop_at (suc (length front)) rest))
+
+-- with a digit that makes the number too large, and whatever follows, the escape stays too large
+stays_over : (is_more : ℕ → Bool) (radix : ℕ) (lead : List ℕ) → Digits is_more radix lead → (quote b : ℕ) (front : List ℕ) (digit : ℕ) (others : List ℕ) → list_all is_more (b ∷ front) ≡ true → is_more digit ≡ true → greatest_code < number_of radix (b ∷ (front ++ (digit ∷ []))) → is_err (escape_at quote ((lead ++ (b ∷ front)) ++ (digit ∷ others))) ≡ true
+stays_over is_more radix lead d quote b front digit others all here over =
+    let r = run_of is_more others in
+    let bytes : List ℕ = (front ++ (digit ∷ [])) ++ r.bytes in
+    let first = and_parts (is_more b) (list_all is_more front) all in
+    let last : list_all is_more (digit ∷ []) ≡ true = and_from (is_more digit) true here refl in
+    let middle : list_all is_more (front ++ (digit ∷ [])) ≡ true = list_all-append is_more front (digit ∷ []) ∙ and_from (list_all is_more front) (list_all is_more (digit ∷ [])) first.1 last in
+    let every : list_all is_more bytes ≡ true = list_all-append is_more (front ++ (digit ∷ [])) r.bytes ∙ and_from (list_all is_more (front ++ (digit ∷ []))) (list_all is_more r.bytes) middle r.all in
+    let value : number_of radix (b ∷ bytes) ≡ number_after radix (number_of radix (b ∷ (front ++ (digit ∷ [])))) r.bytes = joined radix (0 * radix + digit_value b) (front ++ (digit ∷ [])) r.bytes in
+    let large : greatest_code < number_of radix (b ∷ bytes) = omega (arith, over, value, number_grows radix (number_of radix (b ∷ (front ++ (digit ∷ [])))) r.bytes d.some) in
+    let shape : (lead ++ (b ∷ front)) ++ (digit ∷ others) ≡ lead ++ ((b ∷ bytes) ++ r.rest) =
+        append_assoc lead (b ∷ front) (digit ∷ others)
+          ∙ ap (λ xs. lead ++ (b ∷ (front ++ (digit ∷ xs)))) r.parts
+          ∙ ap (λ xs. lead ++ (b ∷ xs)) (sym (append_assoc front (digit ∷ []) (r.bytes ++ r.rest)) ∙ sym (append_assoc (front ++ (digit ∷ [])) r.bytes r.rest)) in
+    ap (λ text. is_err (escape_at quote text)) shape ∙ ap (λ c. is_err c) (digits_pass is_more radix lead d quote b bytes r.rest (and_from (is_more b) (list_all is_more bytes) first.0 every) r.ends large)
+
+-- what stands at the front of two lists that are the same
+same_head : (b c : ℕ) (bs cs : List ℕ) → b ∷ bs ≡ c ∷ cs → b ≡ c
+same_head b c bs cs e = ap (λ xs. get_or xs 0 0) e
+
+-- an escape of digits whose number is too large stops at the first digit with which it is
+digits_stop : (is_more : ℕ → Bool) (radix : ℕ) (lead : List ℕ) → Digits is_more radix lead → (quote b : ℕ) (digits rest : List ℕ) → list_all is_more (b ∷ digits) ≡ true → Over radix greatest_code (0 * radix + digit_value b) digits → EscapeView quote (lead ++ ((b ∷ digits) ++ rest)) (Err fault.Literal)
+digits_stop is_more radix lead d quote b digits rest all o =
+    let first = and_parts (is_more b) (list_all is_more digits) all in
+    let parted = and_parts (list_all is_more o.front) (list_all is_more (o.digit ∷ o.back)) (sym (list_all-append is_more o.front (o.digit ∷ o.back)) ∙ sym (ap (list_all is_more) o.parts) ∙ first.1) in
+    let here = (and_parts (is_more o.digit) (list_all is_more o.back) parted.1).0 in
+    let before : list_all is_more (b ∷ o.front) ≡ true = and_from (is_more b) (list_all is_more o.front) first.0 parted.0 in
+    let shape : lead ++ ((b ∷ digits) ++ rest) ≡ (lead ++ (b ∷ o.front)) ++ (o.digit ∷ (o.back ++ rest)) =
+        ap (λ xs. lead ++ (b ∷ (xs ++ rest))) o.parts
+          ∙ ap (λ xs. lead ++ (b ∷ xs)) (append_assoc o.front (o.digit ∷ o.back) rest)
+          ∙ sym (append_assoc lead (b ∷ o.front) (o.digit ∷ (o.back ++ rest))) in
+    let whole : IsEscape is_more ((lead ++ (b ∷ o.front)) ++ []) (number_of radix (b ∷ o.front)) =
+        subst (λ bytes. IsEscape is_more bytes (number_of radix (b ∷ o.front))) (sym (append-nil (lead ++ (b ∷ o.front)))) (d.escape (b ∷ o.front) before o.fits) in
+    subst (λ f. EscapeView quote (lead ++ ((b ∷ digits) ++ rest)) (Err f)) (d.literal (suc (length (lead ++ (b ∷ o.front)))) o.digit (o.back ++ rest) here)
+      (stops is_more (lead ++ (b ∷ o.front)) [] (o.digit ∷ (o.back ++ rest)) (number_of radix (b ∷ o.front)) shape whole
+        (λ c cs others e. subst (λ c. is_err (escape_at quote ((lead ++ (b ∷ o.front)) ++ (c ∷ others))) ≡ true) (same_head o.digit c (o.back ++ rest) cs e)
+          (stays_over is_more radix lead d quote b o.front o.digit others before here o.over)))
+
+-- an escape that begins with a digit behind its lead
+digits_view : (is_more : ℕ → Bool) (radix : ℕ) (lead : List ℕ) → Digits is_more radix lead → (quote b : ℕ) (bs : List ℕ) → is_more b ≡ true → EscapeView quote (lead ++ (b ∷ bs)) (escape_at quote (lead ++ (b ∷ bs)))
+digits_view is_more radix lead d quote b bs here =
+    let r = run_of is_more bs in
+    subst (λ xs. EscapeView quote (lead ++ (b ∷ xs)) (escape_at quote (lead ++ (b ∷ xs)))) (sym r.parts)
+      (by_test r.bytes r.rest (and_from (is_more b) (list_all is_more r.bytes) here r.all) r.ends (nat_le (number_of radix (b ∷ r.bytes)) greatest_code) refl)
+  where
+    by_test : (digits rest : List ℕ) → list_all is_more (b ∷ digits) ≡ true → begins_with_member is_more rest ≡ false → (test : Bool) → nat_le (number_of radix (b ∷ digits)) greatest_code ≡ test → EscapeView quote (lead ++ (b ∷ (digits ++ rest))) (escape_at quote (lead ++ (b ∷ (digits ++ rest))))
+    by_test digits rest all ends true e =
+        let fits = leb-true (number_of radix (b ∷ digits)) greatest_code e in
+        subst (λ c. EscapeView quote (lead ++ (b ∷ (digits ++ rest))) c) (sym (digits_fit is_more radix lead d quote b digits rest all ends fits))
+          (read is_more (lead ++ (b ∷ digits)) rest (number_of radix (b ∷ digits)) (sym (append_assoc lead (b ∷ digits) rest)) (d.escape (b ∷ digits) all fits) ends)
+    by_test digits rest all ends false e =
+        let over = leb-false (number_of radix (b ∷ digits)) greatest_code e in
+        let small : 0 * radix + digit_value b ≤ greatest_code = omega (arith, d.fits b here) in
+        subst (λ c. EscapeView quote (lead ++ (b ∷ (digits ++ rest))) c) (sym (digits_pass is_more radix lead d quote b digits rest all ends over))
+          (digits_stop is_more radix lead d quote b digits rest all (first_over radix greatest_code (0 * radix + digit_value b) digits small over))
