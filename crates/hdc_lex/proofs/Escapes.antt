@@ -181,3 +181,59 @@ digits_view is_more radix lead d quote b bs here =
         let small : 0 * radix + digit_value b ≤ greatest_code = omega (arith, d.fits b here) in
         subst (λ c. EscapeView quote (lead ++ (b ∷ (digits ++ rest))) c) (sym (digits_pass is_more radix lead d quote b digits rest all ends over))
           (digits_stop is_more radix lead d quote b digits rest all (first_over radix greatest_code (0 * radix + digit_value b) digits small over))
+
+-- \x and \o with no digit behind them
+leads_nowhere : (is_more : ℕ → Bool) (radix lead : ℕ) → is_more 48 ≡ true → ((digits : List ℕ) → is_run is_more digits ≡ true → number_of radix digits ≤ greatest_code → IsEscape is_more (lead ∷ digits) (number_of radix digits)) → number_of radix (48 ∷ []) ≤ greatest_code → (quote : ℕ) (bs : List ℕ) → ((bs : List ℕ) → begins_with_member is_more bs ≡ false → escape_at quote (lead ∷ bs) ≡ Err (stop_at 2 bs)) → begins_with_member is_more bs ≡ false → EscapeView quote (lead ∷ bs) (escape_at quote (lead ∷ bs))
+leads_nowhere is_more radix lead zero_is escape fits quote bs reads ends =
+    subst (λ c. EscapeView quote (lead ∷ bs) c) (sym (reads bs ends))
+      (stops is_more (lead ∷ []) (48 ∷ []) bs (number_of radix (48 ∷ [])) refl (escape (48 ∷ []) (and_from (is_more 48) true zero_is refl) fits)
+        (λ b cs others e. ap (λ c. is_err c) (reads (b ∷ others) (ap (begins_with_member is_more) (sym e) ∙ ends))))
+
+hexadecimal_none : (quote : ℕ) (bs : List ℕ) → begins_with_member is_hexadecimal bs ≡ false → escape_at quote (120 ∷ bs) ≡ Err (stop_at 2 bs)
+hexadecimal_none quote bs ends = ap (λ n. code_escape 16 2 n bs) (prefix_of_run is_hexadecimal [] bs refl ends)
+
+octal_none : (quote : ℕ) (bs : List ℕ) → begins_with_member is_octal bs ≡ false → escape_at quote (111 ∷ bs) ≡ Err (stop_at 2 bs)
+octal_none quote bs ends = ap (λ n. code_escape 8 2 n bs) (prefix_of_run is_octal [] bs refl ends)
+
+hexadecimal_view : (quote : ℕ) (bs : List ℕ) (test : Bool) → begins_with_member is_hexadecimal bs ≡ test → EscapeView quote (120 ∷ bs) (escape_at quote (120 ∷ bs))
+hexadecimal_view quote [] true e = absurd (false≢true e)
+hexadecimal_view quote (b ∷ bs) true e = digits_view is_hexadecimal 16 (120 ∷ []) hexadecimal_digits quote b bs e
+hexadecimal_view quote bs false e = leads_nowhere is_hexadecimal 16 120 refl (λ digits run fits. IsEscape.hexadecimal digits run fits) (omega arith) quote bs (hexadecimal_none quote) e
+
+octal_view : (quote : ℕ) (bs : List ℕ) (test : Bool) → begins_with_member is_octal bs ≡ test → EscapeView quote (111 ∷ bs) (escape_at quote (111 ∷ bs))
+octal_view quote [] true e = absurd (false≢true e)
+octal_view quote (b ∷ bs) true e = digits_view is_octal 8 (111 ∷ []) octal_digits quote b bs e
+octal_view quote bs false e = leads_nowhere is_octal 8 111 refl (λ digits run fits. IsEscape.octal digits run fits) (omega arith) quote bs (octal_none quote) e
+
+-- directly behind a backslash stands a byte with which no escape begins
+stops_at_once : (quote : ℕ) (text : List ℕ) → ((b : ℕ) (bs others : List ℕ) → text ≡ b ∷ bs → is_err (escape_at quote (b ∷ others)) ≡ true) → EscapeView quote text (Err (stop_at 1 text))
+stops_at_once quote text none = stops (λ digit. false) [] (110 ∷ []) text 10 refl (IsEscape.simple 110 10 refl) none
+
+empty_read : (quote : ℕ) (bs : List ℕ) (test : Bool) → (quote == 34) ≡ test → escape_at quote (38 ∷ bs) ≡ cond test (Ok (None, 2)) (Err fault.Literal)
+empty_read quote bs test e = ap (λ t. cond t (Ok (None, 2)) (Err fault.Literal)) e
+
+empty_view : (quote : ℕ) (bs : List ℕ) (test : Bool) → (quote == 34) ≡ test → EscapeView quote (38 ∷ bs) (escape_at quote (38 ∷ bs))
+empty_view quote bs true e = subst (λ c. EscapeView quote (38 ∷ bs) c) (sym (empty_read quote bs true e)) (empty bs (eqb-true quote 34 e) refl)
+empty_view quote bs false e =
+    subst (λ c. EscapeView quote (38 ∷ bs) c) (sym (empty_read quote bs false e))
+      (stops_at_once quote (38 ∷ bs) (λ b cs others same. subst (λ c. is_err (escape_at quote (c ∷ others)) ≡ true) (same_head 38 b bs cs same) (ap (λ c. is_err c) (empty_read quote others false e))))
+
+short_view : (quote b : ℕ) (bs : List ℕ) → BeginsShort b → (simple : Option ℕ) → simple_escape b ≡ simple → EscapeView quote (b ∷ bs) (escape_at quote (b ∷ bs))
+short_view quote b bs s (Some code) e =
+    subst (λ c. EscapeView quote (b ∷ bs) c) (sym (short_read quote b bs s ∙ ap (λ o. simple_character o (b ∷ bs)) e))
+      (read (λ digit. false) (b ∷ []) bs code refl (IsEscape.simple b code e) (begins_with_none bs))
+short_view quote b bs s None e =
+    subst (λ c. EscapeView quote (b ∷ bs) c) (sym (short_read quote b bs s ∙ ap (λ o. simple_character o (b ∷ bs)) e))
+      (stops_at_once quote (b ∷ bs) (λ c cs others same. subst (λ c. is_err (escape_at quote (c ∷ others)) ≡ true) (same_head b c bs cs same) (ap (λ c. is_err c) (short_read quote b others s ∙ ap (λ o. simple_character o (b ∷ others)) e))))
+
+-- what stands behind a backslash is one of these
+pub escape_view : (quote : ℕ) (text : List ℕ) → EscapeView quote text (escape_at quote text)
+escape_view quote [] = stops_at_once quote [] (λ b bs others e. absurd (omega (arith, ap length e)))
+escape_view quote (b ∷ bs) = by_tests (is_digit b) refl (b == 120) refl (b == 111) refl (b == 38) refl
+  where
+    by_tests : (digit : Bool) → is_digit b ≡ digit → (hexadecimal : Bool) → (b == 120) ≡ hexadecimal → (octal : Bool) → (b == 111) ≡ octal → (none : Bool) → (b == 38) ≡ none → EscapeView quote (b ∷ bs) (escape_at quote (b ∷ bs))
+    by_tests true e hexadecimal f octal g none h = digits_view is_digit 10 [] decimal_digits quote b bs e
+    by_tests false e true f octal g none h = subst (λ b. EscapeView quote (b ∷ bs) (escape_at quote (b ∷ bs))) (sym (eqb-true b 120 f)) (hexadecimal_view quote bs (begins_with_member is_hexadecimal bs) refl)
+    by_tests false e false f true g none h = subst (λ b. EscapeView quote (b ∷ bs) (escape_at quote (b ∷ bs))) (sym (eqb-true b 111 g)) (octal_view quote bs (begins_with_member is_octal bs) refl)
+    by_tests false e false f false g true h = subst (λ b. EscapeView quote (b ∷ bs) (escape_at quote (b ∷ bs))) (sym (eqb-true b 38 h)) (empty_view quote bs (quote == 34) refl)
+    by_tests false e false f false g false h = short_view quote b bs (record { digit = e; hexadecimal = f; octal = g; empty = h }) (simple_escape b) refl
