@@ -143,7 +143,7 @@ stays_over is_more radix lead d quote b front digit others all here over =
     ap (λ text. is_err (escape_at quote text)) shape ∙ ap (λ c. is_err c) (digits_pass is_more radix lead d quote b bytes r.rest (and_from (is_more b) (list_all is_more bytes) first.0 every) r.ends large)
 
 -- what stands at the front of two lists that are the same
-same_head : (b c : ℕ) (bs cs : List ℕ) → b ∷ bs ≡ c ∷ cs → b ≡ c
+pub same_head : (b c : ℕ) (bs cs : List ℕ) → b ∷ bs ≡ c ∷ cs → b ≡ c
 same_head b c bs cs e = ap (λ xs. get_or xs 0 0) e
 
 -- an escape of digits whose number is too large stops at the first digit with which it is

@@ -6,3 +6,5 @@ pub mod Strings
 pub mod Lexemes
 pub mod Runs
 pub mod Escapes
+pub mod Parts
+pub mod FirstFaults
