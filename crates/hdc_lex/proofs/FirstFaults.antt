@@ -1,14 +1,14 @@
 -- Lexemes that begin with a quote, and the first faults of literals.
-use Rattle.std.proofs.Common.{◌≡◌, ℕ, suc, ◌+◌, ◌<◌, ◌≤◌, List, [], ◌∷◌, ◌++◌, length, get_or, take, drop, refl, sym, ap, subst, ◌∙◌, arith, true, false}
+use Rattle.std.proofs.Common.{◌≡◌, ℕ, suc, ◌+◌, ◌<◌, ◌≤◌, List, [], ◌∷◌, ◌++◌, length, take, refl, sym, ap, subst, ◌∙◌, arith, Bool, true, false, not}
 use Rattle.std.specs.List.{list_all}
 use Rattle.std.proofs.lemmas.Bool.{false≢true, and_parts}
-use Rattle.std.proofs.lemmas.List.{append_assoc, length-append, take_at, take_more, drop_at, drop_more}
+use Rattle.std.proofs.lemmas.List.{append_assoc, length-append, take_at}
+use Rattle.hdc_base.specs.declared.token.Key.{Key}
 use Rattle.hdc_base.specs.declared.token.Word.{Word}
 use Rattle.hdc_base.specs.declared.token.Word.TheVariants as word
-use Rattle.hdc_lex.specs.Bytes.{is_symbol, is_digit}
+use Rattle.hdc_lex.specs.Bytes.{is_one_of, is_small, is_capital, is_symbol, is_digit}
 use Rattle.hdc_lex.specs.Grammar.{is_run, IsSpecial, IsCharacter, AreCharacters, IsLexeme}
 use Rattle.hdc_lex.specs.Fronts.{BeginsLexeme, IsFirstFault}
-use Rattle.hdc_lex.proofs.Escapes.{same_head}
 
 -- a lexeme that begins with a quote is a character
 pub record IsQuoted (bytes : List ℕ) (w : Word) : Type 0 where
@@ -26,26 +26,52 @@ pub record IsDoubleQuoted (bytes : List ℕ) (w : Word) : Type 0 where
   pub closed : bytes ≡ inner ++ (34 ∷ [])
   pub told : w ≡ word.Str codes
 
--- the rest of a list behind its first byte
-same_tail : (b c : ℕ) (bs cs : List ℕ) → b ∷ bs ≡ c ∷ cs → bs ≡ cs
-same_tail b c bs cs e = ap (λ xs. drop 1 xs) e
+-- a lexeme, where it begins with a quote
+abbrev QuotedForm : List ℕ → Word → Type 0
+QuotedForm [] w = Unit {0}
+QuotedForm (b ∷ bs) w = (b ≡ 39 → IsQuoted bs w) × (b ≡ 34 → IsDoubleQuoted bs w)
 
-no_special : (b : ℕ) (k : _) → IsSpecial b k → b ≡ 39 → ⊥
-no_special b k special e = ?
+-- a byte of a class is no byte that is not of the class
+other_byte : (is_member : ℕ → Bool) (b quote : ℕ) → is_member quote ≡ false → is_member b ≡ true → b ≡ quote → ⊥
+other_byte is_member b quote none e same = false≢true (sym none ∙ sym (ap is_member same) ∙ e)
 
+-- a lexeme that begins with a byte of a class without the quotes
+begins_otherwise : (is_member : ℕ → Bool) (b : ℕ) (bs : List ℕ) (w : Word) → is_member 39 ≡ false → is_member 34 ≡ false → is_member b ≡ true → QuotedForm (b ∷ bs) w
+begins_otherwise is_member b bs w quote double e = (λ same. absurd (other_byte is_member b 39 quote e same), λ same. absurd (other_byte is_member b 34 double e same))
+
+special_is : (b : ℕ) (k : Key) → IsSpecial b k → is_one_of (34 ∷ 39 ∷ []) b ≡ false
+special_is b k IsSpecial.open_paren = refl
+special_is b k IsSpecial.close_paren = refl
+special_is b k IsSpecial.comma = refl
+special_is b k IsSpecial.semicolon = refl
+special_is b k IsSpecial.open_bracket = refl
+special_is b k IsSpecial.close_bracket = refl
+special_is b k IsSpecial.open_brace = refl
+special_is b k IsSpecial.close_brace = refl
+special_is b k IsSpecial.backquote = refl
+
+begins_by_run : (is_member : ℕ → Bool) (bytes : List ℕ) (w : Word) → is_member 39 ≡ false → is_member 34 ≡ false → is_run is_member bytes ≡ true → QuotedForm bytes w
+begins_by_run is_member [] w quote double run = tt
+begins_by_run is_member (b ∷ bs) w quote double run = begins_otherwise is_member b bs w quote double (and_parts (is_member b) (list_all is_member bs) run).0
+
+quoted_form : (bytes : List ℕ) (w : Word) → IsLexeme bytes w → QuotedForm bytes w
+quoted_form bytes w (IsLexeme.small b bs e all) = begins_otherwise is_small b bs w refl refl e
+quoted_form bytes w (IsLexeme.capital b bs e all) = begins_otherwise is_capital b bs w refl refl e
+quoted_form bytes w (IsLexeme.symbols bs run) = begins_by_run is_symbol bs w refl refl run
+quoted_form bytes w (IsLexeme.decimal digits run) = begins_by_run is_digit digits w refl refl run
+quoted_form bytes w (IsLexeme.hexadecimal x digits e run) = begins_otherwise is_digit 48 (x ∷ digits) w refl refl refl
+quoted_form bytes w (IsLexeme.octal o digits e run) = begins_otherwise is_digit 48 (o ∷ digits) w refl refl refl
+quoted_form bytes w (IsLexeme.character inner code is) = (λ same. record { inner = inner; code = code; character = is; closed = refl; told = refl }, λ same. absurd (omega (arith, same)))
+quoted_form bytes w (IsLexeme.string inner codes are) = (λ same. absurd (omega (arith, same)), λ same. record { inner = inner; codes = codes; characters = are; closed = refl; told = refl })
+quoted_form bytes w (IsLexeme.special b k is) = begins_otherwise (λ b. not (is_one_of (34 ∷ 39 ∷ []) b)) b [] w refl refl (ap not (special_is b k is))
+
+-- what a lexeme that begins with a quote is
 pub quoted_is : (bytes : List ℕ) (w : Word) → IsLexeme (39 ∷ bytes) w → IsQuoted bytes w
-quoted_is bytes w l = by_cases (39 ∷ bytes) w l refl
-  where
-    by_cases : (whole : List ℕ) (v : Word) → IsLexeme whole v → whole ≡ 39 ∷ bytes → IsQuoted bytes v
-    by_cases whole v (IsLexeme.small b bs e all) same = ?
-    by_cases whole v (IsLexeme.capital b bs e all) same = ?
-    by_cases whole v (IsLexeme.symbols bs run) same = ?
-    by_cases whole v (IsLexeme.decimal digits run) same = ?
-    by_cases whole v (IsLexeme.hexadecimal x digits e run) same = ?
-    by_cases whole v (IsLexeme.octal o digits e run) same = ?
-    by_cases whole v (IsLexeme.character inner code is) same = record { inner = inner; code = code; character = is; closed = sym (same_tail 39 39 (inner ++ (39 ∷ [])) bytes same); told = refl }
-    by_cases whole v (IsLexeme.string inner codes are) same = ?
-    by_cases whole v (IsLexeme.special b k is) same = ?
+quoted_is bytes w l = (quoted_form (39 ∷ bytes) w l).0 refl
+
+-- what a lexeme that begins with a double quote is
+pub double_quoted_is : (bytes : List ℕ) (w : Word) → IsLexeme (34 ∷ bytes) w → IsDoubleQuoted bytes w
+double_quoted_is bytes w l = (quoted_form (34 ∷ bytes) w l).1 refl
 
 -- where the bytes of a literal stop, with a byte behind them with which no lexeme begins
 pub first_fault : (quote : ℕ) (front rest : List ℕ) → BeginsLexeme (quote ∷ front) → ((b : ℕ) (bs more : List ℕ) (w : Word) → rest ≡ b ∷ bs → IsLexeme (quote ∷ (front ++ (b ∷ more))) w → ⊥) → IsFirstFault (quote ∷ (front ++ rest)) (suc (length front))
@@ -58,5 +84,9 @@ first_fault quote front rest begins none = record {
     by_rest : (rest : List ℕ) → ((b : ℕ) (bs more : List ℕ) (w : Word) → rest ≡ b ∷ bs → IsLexeme (quote ∷ (front ++ (b ∷ more))) w → ⊥) → suc (length front) < length (quote ∷ (front ++ rest)) → BeginsLexeme (take (suc (length front) + 1) (quote ∷ (front ++ rest))) → ⊥
     by_rest [] none behind begins = absurd (omega (arith, behind, length-append front []))
     by_rest (b ∷ bs) none behind begins =
-        let shape : take (suc (length front) + 1) (quote ∷ (front ++ (b ∷ bs))) ++ begins.0 ≡ quote ∷ (front ++ (b ∷ begins.0)) = ? in
+        let size : length (quote ∷ (front ++ (b ∷ []))) ≡ suc (length front) + 1 = omega (arith, length-append front (b ∷ [])) in
+        let shape : take (suc (length front) + 1) (quote ∷ (front ++ (b ∷ bs))) ++ begins.0 ≡ quote ∷ (front ++ (b ∷ begins.0)) =
+            ap (λ xs. take (suc (length front) + 1) (quote ∷ xs) ++ begins.0) (sym (append_assoc front (b ∷ []) bs))
+              ∙ ap (λ xs. xs ++ begins.0) (take_at (quote ∷ (front ++ (b ∷ []))) bs (suc (length front) + 1) size)
+              ∙ ap (λ xs. quote ∷ xs) (append_assoc front (b ∷ []) begins.0) in
         none b bs begins.0 begins.1 refl (subst (λ xs. IsLexeme xs begins.1) shape begins.2)
