@@ -1,14 +1,20 @@
 -- Lexemes that begin with a quote, and the first faults of literals.
-use Rattle.std.proofs.Common.{◌≡◌, ℕ, suc, ◌+◌, ◌<◌, ◌≤◌, List, [], ◌∷◌, ◌++◌, length, take, refl, sym, ap, subst, ◌∙◌, arith, Bool, true, false, not}
+use Rattle.std.proofs.Common.{◌≡◌, ℕ, suc, ◌+◌, ◌<◌, ◌≤◌, List, [], ◌∷◌, ◌++◌, length, take, drop, refl, sym, ap, subst, ◌∙◌, arith, Bool, true, false, cond, not, ◌==◌}
 use Rattle.std.specs.List.{list_all}
 use Rattle.std.proofs.lemmas.Bool.{false≢true, and_parts}
-use Rattle.std.proofs.lemmas.List.{append_assoc, length-append, take_at}
+use Rattle.std.proofs.lemmas.List.{append_assoc, length-append, take_at, drop_at}
 use Rattle.hdc_base.specs.declared.token.Key.{Key}
 use Rattle.hdc_base.specs.declared.token.Word.{Word}
 use Rattle.hdc_base.specs.declared.token.Word.TheVariants as word
-use Rattle.hdc_lex.specs.Bytes.{is_one_of, is_small, is_capital, is_symbol, is_digit}
+use Rattle.hdc_lex.specs.Bytes.{is_one_of, is_small, is_capital, is_symbol, is_digit, is_printable}
+use Rattle.hdc_lex.specs.Characters.{stop_at}
+use Rattle.hdc_lex.specs.Pieces.{further}
 use Rattle.hdc_lex.specs.Grammar.{is_run, IsSpecial, IsCharacter, AreCharacters, IsLexeme}
 use Rattle.hdc_lex.specs.Fronts.{BeginsLexeme, IsFirstFault}
+use Rattle.hdc_lex.specs.declared.lexeme.Fault.{Fault}
+use Rattle.hdc_lex.specs.declared.lexeme.Fault.TheVariants as fault
+use Rattle.hdc_lex.specs.declared.lexeme.Piece.{Piece}
+use Rattle.hdc_lex.specs.declared.lexeme.Piece.TheVariants as piece
 
 -- a lexeme that begins with a quote is a character
 pub record IsQuoted (bytes : List ℕ) (w : Word) : Type 0 where
@@ -90,3 +96,45 @@ first_fault quote front rest begins none = record {
               ∙ ap (λ xs. xs ++ begins.0) (take_at (quote ∷ (front ++ (b ∷ []))) bs (suc (length front) + 1) size)
               ∙ ap (λ xs. quote ∷ xs) (append_assoc front (b ∷ []) begins.0) in
         none b bs begins.0 begins.1 refl (subst (λ xs. IsLexeme xs begins.1) shape begins.2)
+
+-- a fault at the front of a text is told from further on
+pub further_stop : (n offset : ℕ) (rest : List ℕ) → further n (stop_at offset rest) ≡ stop_at (n + offset) rest
+further_stop n offset [] = refl
+further_stop n offset (b ∷ bs) = by_tests (b == 10) (is_printable b)
+  where
+    by_tests : (line printable : Bool) → further n (cond line fault.Unclosed (cond printable fault.Literal (fault.Byte offset))) ≡ cond line fault.Unclosed (cond printable fault.Literal (fault.Byte (n + offset)))
+    by_tests true printable = refl
+    by_tests false true = refl
+    by_tests false false = refl
+
+-- the piece that is read is a lexeme that begins with the quote
+pub record LexemeBehind (quote : ℕ) (text : List ℕ) (p : Piece) (size : ℕ) : Type 0 where
+  pub w : Word
+  pub told : p ≡ piece.Lexeme w
+  pub within : size ≤ 1 + length text
+  pub lexeme : IsLexeme (take size (quote ∷ text)) w
+
+-- the fault that is told is where with the next byte no lexeme begins
+pub record FaultBehind (quote : ℕ) (text : List ℕ) (f : Fault) : Type 0 where
+  pub offset : ℕ
+  pub told : f ≡ stop_at offset (drop offset (quote ∷ text))
+  pub first : IsFirstFault (quote ∷ text) offset
+
+-- such a lexeme from its parts
+pub lexeme_behind : (quote : ℕ) (inner rest : List ℕ) (w : Word) → IsLexeme (quote ∷ (inner ++ (quote ∷ []))) w → (text : List ℕ) → text ≡ inner ++ (quote ∷ rest) → LexemeBehind quote text (piece.Lexeme w) (length inner + 2)
+lexeme_behind quote inner rest w is text parts =
+    let size : length (quote ∷ (inner ++ (quote ∷ []))) ≡ length inner + 2 = omega (arith, length-append inner (quote ∷ [])) in
+    let front : quote ∷ (inner ++ (quote ∷ [])) ≡ take (length inner + 2) (quote ∷ text) =
+        sym (ap (λ xs. take (length inner + 2) (quote ∷ xs)) (parts ∙ sym (append_assoc inner (quote ∷ []) rest)) ∙ take_at (quote ∷ (inner ++ (quote ∷ []))) rest (length inner + 2) size) in
+    record {
+      w = w;
+      told = refl;
+      within = omega (arith, ap length parts, length-append inner (quote ∷ rest));
+      lexeme = subst (λ bytes. IsLexeme bytes w) front is;
+    }
+
+-- such a fault from its parts
+pub fault_behind : (quote : ℕ) (front rest : List ℕ) → BeginsLexeme (quote ∷ front) → ((b : ℕ) (bs more : List ℕ) (w : Word) → rest ≡ b ∷ bs → IsLexeme (quote ∷ (front ++ (b ∷ more))) w → ⊥) → (text : List ℕ) → text ≡ front ++ rest → FaultBehind quote text (stop_at (suc (length front)) rest)
+fault_behind quote front rest begins none text parts =
+    subst (λ xs. FaultBehind quote xs (stop_at (suc (length front)) rest)) (sym parts)
+      (record { offset = suc (length front); told = ap (stop_at (suc (length front))) (sym (drop_at (quote ∷ front) rest (suc (length front)) refl)); first = first_fault quote front rest begins none })

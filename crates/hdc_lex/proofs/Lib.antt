@@ -8,3 +8,4 @@ pub mod Runs
 pub mod Escapes
 pub mod Parts
 pub mod FirstFaults
+pub mod StringLiterals

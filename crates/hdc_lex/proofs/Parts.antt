@@ -84,3 +84,15 @@ ends_at_double_quote is_more bytes code (IsEscape.simple b c e) = refl
 ends_at_double_quote is_more bytes code (IsEscape.decimal digits run fits) = refl
 ends_at_double_quote is_more bytes code (IsEscape.hexadecimal digits run fits) = refl
 ends_at_double_quote is_more bytes code (IsEscape.octal digits run fits) = refl
+
+-- a part does not begin with the quote that ends a literal
+pub part_is_no_quote : (quote : ℕ) (is_more : ℕ → Bool) (bytes : List ℕ) (code : Option ℕ) (rest : List ℕ) → (92 == quote) ≡ false → IsPart quote is_more bytes code → begins_with quote (bytes ++ rest) ≡ false
+part_is_no_quote quote is_more bytes code rest other (IsPart.plain b e) = (plain_parts (is_printable b) (b == quote) (b == 92) e).1
+part_is_no_quote quote is_more bytes code rest other (IsPart.escaped m escape c e) = other
+part_is_no_quote quote is_more bytes code rest other (IsPart.empty e) = other
+
+-- a part has a byte
+pub part_has_some : (quote : ℕ) (is_more : ℕ → Bool) (bytes : List ℕ) (code : Option ℕ) → IsPart quote is_more bytes code → 0 < length bytes
+part_has_some quote is_more bytes code (IsPart.plain b e) = omega arith
+part_has_some quote is_more bytes code (IsPart.escaped m escape c e) = omega arith
+part_has_some quote is_more bytes code (IsPart.empty e) = omega arith
