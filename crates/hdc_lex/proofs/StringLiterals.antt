@@ -61,3 +61,90 @@ pub string_read : (bytes codes rest : List ℕ) → AreCharacters bytes codes �
 string_read bytes codes rest are =
     let size : length bytes + 1 + 1 ≡ length bytes + 2 = omega arith in
     ap as_string (codes_read bytes codes are rest (length (bytes ++ (34 ∷ rest))) (omega (arith, length-append bytes (34 ∷ rest)))) ∙ ap (lexeme (word.Str codes)) size
+
+-- a part in front of the characters of a string
+part_more : (is_more : ℕ → Bool) (part : List ℕ) (code : Option ℕ) (bytes codes : List ℕ) → IsPart 34 is_more part code → begins_with_member is_more bytes ≡ false → AreCharacters bytes codes → AreCharacters (part ++ bytes) (code_list code ++ codes)
+part_more is_more part code bytes codes (IsPart.plain b e) ends are = AreCharacters.plain b bytes codes e are
+part_more is_more part code bytes codes (IsPart.escaped m escape c e) ends are = AreCharacters.escaped m escape bytes c codes e ends are
+part_more is_more part code bytes codes (IsPart.empty e) ends are = AreCharacters.empty bytes codes are
+
+-- what a text behind the quote of a string is: characters with a quote behind them, or bytes that some characters begin with,
+-- with a byte behind them with which none do; what more makes characters of these begins as the text does, or is nothing
+data StringView (text : List ℕ) : Codes → Type 0 where
+  read : (bytes codes rest : List ℕ) → text ≡ bytes ++ (34 ∷ rest) → AreCharacters bytes codes → StringView text (Ok (codes, length bytes + 1))
+  stops : (front more rest codes : List ℕ) → text ≡ front ++ rest → AreCharacters (front ++ more) codes → ((is_more : ℕ → Bool) → begins_with_member is_more (front ++ rest) ≡ false → begins_with_member is_more (front ++ more) ≡ false) → ((b : ℕ) (bs others : List ℕ) (most : ℕ) → rest ≡ b ∷ bs → is_err (string_codes most (front ++ (b ∷ others))) ≡ true) → StringView text (Err (stop_at (length front) rest))
+
+-- what is an error behind a part or in it is one with it
+err_in_front : (codes : List ℕ) (size : ℕ) (r : Codes) → is_err r ≡ true → is_err (with_front codes size r) ≡ true
+err_in_front codes size (Ok found) e = absurd (false≢true e)
+err_in_front codes size (Err f) e = refl
+
+err_at_character : (c : Character) (rest : ℕ → Codes) → is_err c ≡ true → is_err (behind_character c rest) ≡ true
+err_at_character (Ok found) rest e = absurd (false≢true e)
+err_at_character (Err f) rest e = refl
+
+-- where the text stops behind a part, it stops with the part in front at the same byte
+next_behind : (is_more : ℕ → Bool) (part : List ℕ) (code : Option ℕ) (front rest : List ℕ) → IsPart 34 is_more part code → begins_with_member is_more (front ++ rest) ≡ false → ((b : ℕ) (bs others : List ℕ) (most : ℕ) → rest ≡ b ∷ bs → is_err (string_codes most (front ++ (b ∷ others))) ≡ true) → (b : ℕ) (bs others : List ℕ) (most : ℕ) → rest ≡ b ∷ bs → is_err (string_codes most ((part ++ front) ++ (b ∷ others))) ≡ true
+next_behind is_more part code front rest is ends none b bs others zero same = refl
+next_behind is_more part code front rest is ends none b bs others (suc most) same =
+    let shared : begins_with_member is_more (front ++ (b ∷ others)) ≡ false = begins_with_next is_more front b others bs ∙ ap (λ xs. begins_with_member is_more (front ++ xs)) (sym same) ∙ ends in
+    ap (λ xs. is_err (string_codes (suc most) xs)) (append_assoc part front (b ∷ others))
+      ∙ ap (λ r. is_err r) (behind_part is_more part code (front ++ (b ∷ others)) most is shared)
+      ∙ err_in_front (code_list code) (length part) (string_codes most (front ++ (b ∷ others))) (none b bs others most same)
+
+-- one more part in front of a text
+view_more : (is_more : ℕ → Bool) (part : List ℕ) (code : Option ℕ) (text : List ℕ) → IsPart 34 is_more part code → begins_with_member is_more text ≡ false → (r : Codes) → StringView text r → StringView (part ++ text) (with_front (code_list code) (length part) r)
+view_more is_more part code text is ends r (StringView.read bytes codes rest parts are) =
+    let size : length (part ++ bytes) + 1 ≡ length part + (length bytes + 1) = omega (arith, length-append part bytes) in
+    let apart : begins_with_member is_more bytes ≡ false = begins_without is_more bytes (34 ∷ rest) (sym (ap (begins_with_member is_more) parts) ∙ ends) in
+    subst (λ n. StringView (part ++ text) (Ok (code_list code ++ codes, n))) size
+      (read (part ++ bytes) (code_list code ++ codes) rest (ap (λ xs. part ++ xs) parts ∙ sym (append_assoc part bytes (34 ∷ rest))) (part_more is_more part code bytes codes is apart are))
+view_more is_more part code text is ends r (StringView.stops front more rest codes parts are begins none) =
+    let told : stop_at (length (part ++ front)) rest ≡ further (length part) (stop_at (length front) rest) = ap (λ n. stop_at n rest) (length-append part front) ∙ sym (further_stop (length part) (length front) rest) in
+    let ends_there : begins_with_member is_more (front ++ rest) ≡ false = sym (ap (begins_with_member is_more) parts) ∙ ends in
+    let shape : (part ++ front) ++ more ≡ part ++ (front ++ more) = append_assoc part front more in
+    let some : 0 < length (part ++ front) = omega (arith, length-append part front, part_has_some 34 is_more part code is) in
+    subst (λ f. StringView (part ++ text) (Err f)) told
+      (stops (part ++ front) more rest (code_list code ++ codes) (ap (λ xs. part ++ xs) parts ∙ sym (append_assoc part front rest))
+        (subst (λ xs. AreCharacters xs (code_list code ++ codes)) (sym shape) (part_more is_more part code (front ++ more) codes is (begins is_more ends_there) are))
+        (λ m e. begins_the_same m (part ++ front) more rest some ∙ e)
+        (next_behind is_more part code front rest is ends_there none))
+
+-- a text that begins with the quote
+quote_first : (text : List ℕ) → begins_with 34 text ≡ true → text ≡ 34 ∷ drop 1 text
+quote_first [] e = absurd (false≢true e)
+quote_first (b ∷ bs) e = ap (λ c. c ∷ bs) (eqb-true b 34 e)
+
+-- bytes with which a part begins stop a string where they stop the part
+stops_here : (text front rest : List ℕ) → begins_with 34 text ≡ false → text ≡ front ++ rest → BeginsPart front → ((b : ℕ) (bs others : List ℕ) → rest ≡ b ∷ bs → is_err (character_at 34 (front ++ (b ∷ others))) ≡ true) → StringView text (Err (stop_at (length front) rest))
+stops_here text front rest open_yet parts BeginsPart.nothing none = stops [] [] rest [] parts AreCharacters.none (λ m e. refl) none_at
+  where
+    none_at : (b : ℕ) (bs others : List ℕ) (most : ℕ) → rest ≡ b ∷ bs → is_err (string_codes most (b ∷ others)) ≡ true
+    none_at b bs others zero same = refl
+    none_at b bs others (suc most) same =
+        ap (λ r. is_err r) (at_character most (b ∷ others) (sym (ap (begins_with 34) (parts ∙ same)) ∙ open_yet))
+          ∙ err_at_character (character_at 34 (b ∷ others)) (λ size. string_codes most (drop size (b ∷ others))) (none b bs others same)
+stops_here text front rest open_yet parts (BeginsPart.begun is_more begun more code e) none =
+    stops (92 ∷ begun) more rest (code ∷ []) parts (subst (λ xs. AreCharacters (92 ∷ xs) (code ∷ [])) (append-nil (begun ++ more)) (AreCharacters.escaped is_more (begun ++ more) [] code [] e refl AreCharacters.none)) (λ m same. same) none_at
+  where
+    none_at : (b : ℕ) (bs others : List ℕ) (most : ℕ) → rest ≡ b ∷ bs → is_err (string_codes most (92 ∷ (begun ++ (b ∷ others)))) ≡ true
+    none_at b bs others zero same = refl
+    none_at b bs others (suc most) same = err_at_character (character_at 34 (92 ∷ (begun ++ (b ∷ others)))) (λ size. string_codes most (drop size (92 ∷ (begun ++ (b ∷ others))))) (none b bs others same)
+
+-- what stands behind the quote of a string is one of these
+string_view : (most : ℕ) (text : List ℕ) → length text ≤ most → StringView text (string_codes most text)
+string_view zero [] short = stops [] [] [] [] refl AreCharacters.none (λ m e. refl) (λ b bs others most e. absurd (omega (arith, ap length e)))
+string_view zero (b ∷ bs) short = absurd (omega (arith, short))
+string_view (suc most) text short = by_test (λ rest h. string_view most rest h) (begins_with 34 text) refl
+  where
+    by_part : ((rest : List ℕ) → length rest ≤ most → StringView rest (string_codes most rest)) → begins_with 34 text ≡ false → (c : Character) → character_at 34 text ≡ c → PartView 34 text c → StringView text (behind_character c (λ size. string_codes most (drop size text)))
+    by_part later open_yet c e (PartView.read is_more bytes rest code parts is ends) =
+        let left : length rest ≤ most = omega (arith, short, ap length parts, length-append bytes rest, part_has_some 34 is_more bytes code is) in
+        let back : drop (length bytes) text ≡ rest = ap (drop (length bytes)) parts ∙ drop_at bytes rest (length bytes) refl in
+        subst (λ xs. StringView text (with_front (code_list code) (length bytes) (string_codes most xs))) (sym back)
+          (subst (λ xs. StringView xs (with_front (code_list code) (length bytes) (string_codes most rest))) (sym parts) (view_more is_more bytes code rest is ends (string_codes most rest) (later rest left)))
+    by_part later open_yet c e (PartView.stops front rest parts begun none) = stops_here text front rest open_yet parts begun none
+
+    by_test : ((rest : List ℕ) → length rest ≤ most → StringView rest (string_codes most rest)) → (test : Bool) → begins_with 34 text ≡ test → StringView text (string_codes (suc most) text)
+    by_test later true e = subst (λ xs. StringView xs (string_codes (suc most) xs)) (sym (quote_first text e)) (read [] [] (drop 1 text) refl AreCharacters.none)
+    by_test later false e = subst (λ r. StringView text r) (sym (at_character most text e)) (by_part later e (character_at 34 text) refl (part_view 34 text e))
