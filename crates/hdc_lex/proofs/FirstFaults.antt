@@ -1,5 +1,5 @@
 -- Lexemes that begin with a quote, and the first faults of literals.
-use Rattle.std.proofs.Common.{◌≡◌, ℕ, suc, ◌+◌, ◌<◌, ◌≤◌, List, [], ◌∷◌, ◌++◌, length, take, drop, refl, sym, ap, subst, ◌∙◌, arith, Bool, true, false, cond, not, ◌==◌}
+use Rattle.std.proofs.Common.{◌≡◌, ℕ, suc, ◌+◌, ◌<◌, ◌≤◌, List, [], ◌∷◌, ◌++◌, length, take, drop, refl, sym, ap, subst, ◌∙◌, arith, Bool, true, false, cond, not, ◌==◌, Ok}
 use Rattle.std.specs.List.{list_all}
 use Rattle.std.proofs.lemmas.Bool.{false≢true, and_parts}
 use Rattle.std.proofs.lemmas.List.{append_assoc, length-append, take_at, drop_at}
@@ -8,7 +8,7 @@ use Rattle.hdc_base.specs.declared.token.Word.{Word}
 use Rattle.hdc_base.specs.declared.token.Word.TheVariants as word
 use Rattle.hdc_lex.specs.Bytes.{is_one_of, is_small, is_capital, is_symbol, is_digit, is_printable}
 use Rattle.hdc_lex.specs.Characters.{stop_at}
-use Rattle.hdc_lex.specs.Pieces.{further}
+use Rattle.hdc_lex.specs.Pieces.{further, Found, lexeme}
 use Rattle.hdc_lex.specs.Grammar.{is_run, IsSpecial, IsCharacter, AreCharacters, IsLexeme}
 use Rattle.hdc_lex.specs.Fronts.{BeginsLexeme, IsFirstFault}
 use Rattle.hdc_lex.specs.declared.lexeme.Fault.{Fault}
@@ -120,16 +120,21 @@ pub record FaultBehind (quote : ℕ) (text : List ℕ) (f : Fault) : Type 0 wher
   pub told : f ≡ stop_at offset (drop offset (quote ∷ text))
   pub first : IsFirstFault (quote ∷ text) offset
 
+-- two lexemes that are found are the same
+same_found : (p q : Piece) (n m : ℕ) → ◌≡◌ {A = Found} (Ok (p, n)) (Ok (q, m)) → (p ≡ q) × (n ≡ m)
+same_found p q n m e = let pair : ◌≡◌ {A = Piece × ℕ} (p, n) (q, m) = cc e in (ap (λ f. f.0) pair, ap (λ f. f.1) pair)
+
 -- such a lexeme from its parts
-pub lexeme_behind : (quote : ℕ) (inner rest : List ℕ) (w : Word) → IsLexeme (quote ∷ (inner ++ (quote ∷ []))) w → (text : List ℕ) → text ≡ inner ++ (quote ∷ rest) → LexemeBehind quote text (piece.Lexeme w) (length inner + 2)
-lexeme_behind quote inner rest w is text parts =
-    let size : length (quote ∷ (inner ++ (quote ∷ []))) ≡ length inner + 2 = omega (arith, length-append inner (quote ∷ [])) in
-    let front : quote ∷ (inner ++ (quote ∷ [])) ≡ take (length inner + 2) (quote ∷ text) =
-        sym (ap (λ xs. take (length inner + 2) (quote ∷ xs)) (parts ∙ sym (append_assoc inner (quote ∷ []) rest)) ∙ take_at (quote ∷ (inner ++ (quote ∷ []))) rest (length inner + 2) size) in
+pub lexeme_behind : (quote : ℕ) (inner rest : List ℕ) (w : Word) → IsLexeme (quote ∷ (inner ++ (quote ∷ []))) w → (text : List ℕ) → text ≡ inner ++ (quote ∷ rest) → (p : Piece) (size : ℕ) → lexeme w (length inner + 2) ≡ Ok (p, size) → LexemeBehind quote text p size
+lexeme_behind quote inner rest w is text parts p size found =
+    let same = same_found (piece.Lexeme w) p (length inner + 2) size found in
+    let all : length (quote ∷ (inner ++ (quote ∷ []))) ≡ size = omega (arith, length-append inner (quote ∷ []), same.1) in
+    let front : quote ∷ (inner ++ (quote ∷ [])) ≡ take size (quote ∷ text) =
+        sym (ap (λ xs. take size (quote ∷ xs)) (parts ∙ sym (append_assoc inner (quote ∷ []) rest)) ∙ take_at (quote ∷ (inner ++ (quote ∷ []))) rest size all) in
     record {
       w = w;
-      told = refl;
-      within = omega (arith, ap length parts, length-append inner (quote ∷ rest));
+      told = sym same.0;
+      within = omega (arith, same.1, ap length parts, length-append inner (quote ∷ rest));
       lexeme = subst (λ bytes. IsLexeme bytes w) front is;
     }
 

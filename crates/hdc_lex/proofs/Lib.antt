@@ -9,3 +9,4 @@ pub mod Escapes
 pub mod Parts
 pub mod FirstFaults
 pub mod StringLiterals
+pub mod CharacterLiterals

@@ -124,12 +124,12 @@ stops_here text front rest open_yet parts BeginsPart.nothing none = stops [] [] 
     none_at b bs others (suc most) same =
         ap (λ r. is_err r) (at_character most (b ∷ others) (sym (ap (begins_with 34) (parts ∙ same)) ∙ open_yet))
           ∙ err_at_character (character_at 34 (b ∷ others)) (λ size. string_codes most (drop size (b ∷ others))) (none b bs others same)
-stops_here text front rest open_yet parts (BeginsPart.begun is_more begun more code e) none =
-    stops (92 ∷ begun) more rest (code ∷ []) parts (subst (λ xs. AreCharacters (92 ∷ xs) (code ∷ [])) (append-nil (begun ++ more)) (AreCharacters.escaped is_more (begun ++ more) [] code [] e refl AreCharacters.none)) (λ m same. same) none_at
+stops_here text front rest open_yet parts (BeginsPart.begun is_more start more code e) none =
+    stops (92 ∷ start) more rest (code ∷ []) parts (subst (λ xs. AreCharacters (92 ∷ xs) (code ∷ [])) (append-nil (start ++ more)) (AreCharacters.escaped is_more (start ++ more) [] code [] e refl AreCharacters.none)) (λ m same. same) none_at
   where
-    none_at : (b : ℕ) (bs others : List ℕ) (most : ℕ) → rest ≡ b ∷ bs → is_err (string_codes most (92 ∷ (begun ++ (b ∷ others)))) ≡ true
+    none_at : (b : ℕ) (bs others : List ℕ) (most : ℕ) → rest ≡ b ∷ bs → is_err (string_codes most (92 ∷ (start ++ (b ∷ others)))) ≡ true
     none_at b bs others zero same = refl
-    none_at b bs others (suc most) same = err_at_character (character_at 34 (92 ∷ (begun ++ (b ∷ others)))) (λ size. string_codes most (drop size (92 ∷ (begun ++ (b ∷ others))))) (none b bs others same)
+    none_at b bs others (suc most) same = err_at_character (character_at 34 (92 ∷ (start ++ (b ∷ others)))) (λ size. string_codes most (drop size (92 ∷ (start ++ (b ∷ others))))) (none b bs others same)
 
 -- what stands behind the quote of a string is one of these
 string_view : (most : ℕ) (text : List ℕ) → length text ≤ most → StringView text (string_codes most text)
@@ -143,8 +143,39 @@ string_view (suc most) text short = by_test (λ rest h. string_view most rest h)
         let back : drop (length bytes) text ≡ rest = ap (drop (length bytes)) parts ∙ drop_at bytes rest (length bytes) refl in
         subst (λ xs. StringView text (with_front (code_list code) (length bytes) (string_codes most xs))) (sym back)
           (subst (λ xs. StringView xs (with_front (code_list code) (length bytes) (string_codes most rest))) (sym parts) (view_more is_more bytes code rest is ends (string_codes most rest) (later rest left)))
-    by_part later open_yet c e (PartView.stops front rest parts begun none) = stops_here text front rest open_yet parts begun none
+    by_part later open_yet c e (PartView.stops front rest parts begins none) = stops_here text front rest open_yet parts begins none
 
     by_test : ((rest : List ℕ) → length rest ≤ most → StringView rest (string_codes most rest)) → (test : Bool) → begins_with 34 text ≡ test → StringView text (string_codes (suc most) text)
     by_test later true e = subst (λ xs. StringView xs (string_codes (suc most) xs)) (sym (quote_first text e)) (read [] [] (drop 1 text) refl AreCharacters.none)
     by_test later false e = subst (λ r. StringView text r) (sym (at_character most text e)) (by_part later e (character_at 34 text) refl (part_view 34 text e))
+
+-- what is read behind a double quote is a string
+pub string_is : (text : List ℕ) (p : Piece) (size : ℕ) → string_literal text ≡ Ok (p, size) → LexemeBehind 34 text p size
+string_is text p size found = by_view (string_codes (length text) text) (string_view (length text) text (omega arith)) found
+  where
+    by_view : (r : Codes) → StringView text r → as_string r ≡ Ok (p, size) → LexemeBehind 34 text p size
+    by_view r (StringView.read bytes codes rest parts are) e =
+        let sum : length bytes + 2 ≡ length bytes + 1 + 1 = omega arith in
+        lexeme_behind 34 bytes rest (word.Str codes) (IsLexeme.string bytes codes are) text parts p size (ap (lexeme (word.Str codes)) sum ∙ e)
+    by_view r (StringView.stops front more rest codes parts are begins none) e = cc e
+
+-- no string goes on with the byte at which the characters of one stop
+no_string : (front rest : List ℕ) → ((b : ℕ) (bs others : List ℕ) (most : ℕ) → rest ≡ b ∷ bs → is_err (string_codes most (front ++ (b ∷ others))) ≡ true) → (b : ℕ) (bs more : List ℕ) (w : Word) → rest ≡ b ∷ bs → IsLexeme (34 ∷ (front ++ (b ∷ more))) w → ⊥
+no_string front rest none b bs more w same is =
+    let s = double_quoted_is (front ++ (b ∷ more)) w is in
+    let ok = codes_read s.inner s.codes s.characters [] (suc (length s.inner)) (omega arith) in
+    false≢true (sym (ap (λ r. is_err r) (ap (string_codes (suc (length s.inner))) s.closed ∙ ok)) ∙ none b bs more (suc (length s.inner)) same)
+
+-- a fault behind a double quote is the first
+pub string_fault : (text : List ℕ) (f : Fault) → string_literal text ≡ Err f → FaultBehind 34 text f
+string_fault text f found = by_view (string_codes (length text) text) (string_view (length text) text (omega arith)) found
+  where
+    by_view : (r : Codes) → StringView text r → as_string r ≡ Err f → FaultBehind 34 text f
+    by_view r (StringView.read bytes codes rest parts are) e = cc e
+    by_view r (StringView.stops front more rest codes parts are begins none) e =
+        let one : 1 + length front ≡ suc (length front) = omega arith in
+        let same_fault : further 1 (stop_at (length front) rest) ≡ f = cc e in
+        let told : stop_at (suc (length front)) rest ≡ f = ap (λ n. stop_at n rest) (sym one) ∙ sym (further_stop 1 (length front) rest) ∙ same_fault in
+        let whole : IsLexeme (34 ∷ (front ++ (more ++ (34 ∷ [])))) (word.Str codes) = subst (λ xs. IsLexeme (34 ∷ xs) (word.Str codes)) (append_assoc front more (34 ∷ [])) (IsLexeme.string (front ++ more) codes are) in
+        let begun : BeginsLexeme (34 ∷ front) = (more ++ (34 ∷ []), word.Str codes, whole) in
+        subst (λ g. FaultBehind 34 text g) told (fault_behind 34 front rest begun (no_string front rest none) text parts)
