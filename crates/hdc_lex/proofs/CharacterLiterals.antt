@@ -1,20 +1,19 @@
 -- Characters between quotes: what is read is a lexeme, each lexeme is read, and where none is the fault is the first.
-use Rattle.std.proofs.Common.{◌≡◌, ℕ, suc, ◌+◌, ◌<◌, ◌≤◌, List, [], ◌∷◌, ◌++◌, length, take, drop, refl, sym, ap, subst, ◌∙◌, arith, Bool, true, false, cond, ◌==◌, is_err, Option, Some, None, Ok, Err}
-use Rattle.std.proofs.lemmas.Bool.{false≢true, eqb-true}
-use Rattle.std.proofs.lemmas.List.{append-nil, append_assoc, length-append, drop_at}
+use Rattle.std.proofs.Common.{◌≡◌, ℕ, suc, ◌+◌, List, [], ◌∷◌, ◌++◌, length, drop, refl, sym, ap, subst, ◌∙◌, arith, Bool, true, false, cond, is_err, Option, Some, None, Ok, Err}
+use Rattle.std.proofs.lemmas.Bool.{false≢true}
+use Rattle.std.proofs.lemmas.List.{append_assoc, drop_at}
 use Rattle.hdc_base.specs.declared.token.Word.{Word}
 use Rattle.hdc_base.specs.declared.token.Word.TheVariants as word
 use Rattle.hdc_lex.specs.Characters.{Character, stop_at, character_at}
 use Rattle.hdc_lex.specs.Pieces.{further, Found, lexeme, begins_with, closed_character, character_literal}
-use Rattle.hdc_lex.specs.Grammar.{begins_with_member, IsEscape, IsCharacter, IsLexeme}
+use Rattle.hdc_lex.specs.Grammar.{begins_with_member, IsCharacter, IsLexeme}
 use Rattle.hdc_lex.specs.Fronts.{BeginsLexeme}
 use Rattle.hdc_lex.specs.declared.lexeme.Fault.{Fault}
 use Rattle.hdc_lex.specs.declared.lexeme.Fault.TheVariants as fault
 use Rattle.hdc_lex.specs.declared.lexeme.Piece.{Piece}
-use Rattle.hdc_lex.specs.declared.lexeme.Piece.TheVariants as piece
 use Rattle.hdc_lex.proofs.Escapes.{same_head}
-use Rattle.hdc_lex.proofs.Parts.{IsPart, BeginsPart, PartView, part_read, part_view, part_is_no_quote, ends_at_quote}
-use Rattle.hdc_lex.proofs.FirstFaults.{IsQuoted, quoted_is, further_stop, LexemeBehind, FaultBehind, lexeme_behind, fault_behind}
+use Rattle.hdc_lex.proofs.Parts.{IsPart, BeginsPart, PartView, part_read, part_view, part_is_no_quote, ends_at_quote, quote_first}
+use Rattle.hdc_lex.proofs.FirstFaults.{quoted_is, told_behind, LexemeBehind, FaultBehind, lexeme_behind, fault_behind}
 
 -- where no quote is at the front, there is a character
 open_read : (text : List ℕ) → begins_with 39 text ≡ false → character_literal text ≡ closed_character text (character_at 39 text)
@@ -24,9 +23,9 @@ open_read text e = ap (λ t. cond t (Err fault.Literal) (closed_character text (
 behind_part : (is_more : ℕ → Bool) (bytes : List ℕ) (code : ℕ) (rest : List ℕ) (closes : Bool) → IsPart 39 is_more bytes (Some code) → begins_with_member is_more rest ≡ false → begins_with 39 rest ≡ closes → character_literal (bytes ++ rest) ≡ cond closes (lexeme (word.Chr code) (length bytes + 2)) (Err (further 1 (stop_at (length bytes) rest)))
 behind_part is_more bytes code rest closes part ends e =
     open_read (bytes ++ rest) (part_is_no_quote 39 is_more bytes (Some code) rest refl part)
-      ∙ ap (closed_character (bytes ++ rest)) (part_read 39 is_more bytes (Some code) rest part ends)
-      ∙ ap (λ xs. cond (begins_with 39 xs) (lexeme (word.Chr code) (length bytes + 2)) (Err (further 1 (stop_at (length bytes) xs)))) (drop_at bytes rest (length bytes) refl)
-      ∙ ap (λ t. cond t (lexeme (word.Chr code) (length bytes + 2)) (Err (further 1 (stop_at (length bytes) rest)))) e
+    ∙ ap (closed_character (bytes ++ rest)) (part_read 39 is_more bytes (Some code) rest part ends)
+    ∙ ap (λ xs. cond (begins_with 39 xs) (lexeme (word.Chr code) (length bytes + 2)) (Err (further 1 (stop_at (length bytes) xs)))) (drop_at bytes rest (length bytes) refl)
+    ∙ ap (λ t. cond t (lexeme (word.Chr code) (length bytes + 2)) (Err (further 1 (stop_at (length bytes) rest)))) e
 
 -- each character is read, whatever follows its closing quote
 pub character_read : (bytes : List ℕ) (code : ℕ) (rest : List ℕ) → IsCharacter bytes code → character_literal (bytes ++ (39 ∷ rest)) ≡ lexeme (word.Chr code) (length bytes + 2)
@@ -66,25 +65,16 @@ err_closed : (text : List ℕ) (c : Character) → is_err c ≡ true → is_err 
 err_closed text (Ok found) e = absurd (false≢true e)
 err_closed text (Err f) e = refl
 
--- a text that begins with the quote
-quote_first : (text : List ℕ) → begins_with 39 text ≡ true → text ≡ 39 ∷ drop 1 text
-quote_first [] e = absurd (false≢true e)
-quote_first (b ∷ bs) e = ap (λ c. c ∷ bs) (eqb-true b 39 e)
-
--- a fault behind a quote
-told_behind : (size : ℕ) (rest : List ℕ) → further 1 (stop_at size rest) ≡ stop_at (suc size) rest
-told_behind size rest = let one : 1 + size ≡ suc size = omega arith in further_stop 1 size rest ∙ ap (λ n. stop_at n rest) one
-
 -- a literal behind its character: closed, or with a byte behind it that is no quote
 view_behind : (is_more : ℕ → Bool) (bytes : List ℕ) (code : ℕ) (rest : List ℕ) → IsPart 39 is_more bytes (Some code) → begins_with_member is_more rest ≡ false → (closes : Bool) → begins_with 39 rest ≡ closes → QuotedView (bytes ++ rest) (character_literal (bytes ++ rest))
 view_behind is_more bytes code rest part ends true e =
     subst (λ r. QuotedView (bytes ++ rest) r) (sym (behind_part is_more bytes code rest true part ends e))
-      (read bytes code (drop 1 rest) (ap (λ xs. bytes ++ xs) (quote_first rest e)) (part_character is_more bytes code part))
+    (read bytes code (drop 1 rest) (ap (λ xs. bytes ++ xs) (quote_first 39 rest e)) (part_character is_more bytes code part))
 view_behind is_more bytes code rest part ends false e =
     subst (λ r. QuotedView (bytes ++ rest) r) (sym (behind_part is_more bytes code rest false part ends e))
-      (subst (λ f. QuotedView (bytes ++ rest) (Err f)) (sym (told_behind (length bytes) rest))
-        (stops bytes rest refl (39 ∷ [], word.Chr code, IsLexeme.character bytes code (part_character is_more bytes code part))
-          (λ b bs others same. ap (λ r. is_err r) (behind_part is_more bytes code (b ∷ others) false part (sym (ap (begins_with_member is_more) same) ∙ ends) (sym (ap (begins_with 39) same) ∙ e)))))
+    (subst (λ f. QuotedView (bytes ++ rest) (Err f)) (sym (told_behind (length bytes) rest))
+    (stops bytes rest refl (39 ∷ [], word.Chr code, IsLexeme.character bytes code (part_character is_more bytes code part))
+    (λ b bs others same. ap (λ r. is_err r) (behind_part is_more bytes code (b ∷ others) false part (sym (ap (begins_with_member is_more) same) ∙ ends) (sym (ap (begins_with 39) same) ∙ e)))))
 
 -- bytes with which a part begins stop a character where they stop the part
 stops_here : (text front rest : List ℕ) → begins_with 39 text ≡ false → text ≡ front ++ rest → BeginsPart front → ((b : ℕ) (bs others : List ℕ) → rest ≡ b ∷ bs → is_err (character_at 39 (front ++ (b ∷ others))) ≡ true) → QuotedView text (Err (stop_at (suc (length front)) rest))
@@ -107,10 +97,10 @@ quoted_view text = by_test (begins_with 39 text) refl
     by_part open_yet c e (PartView.read is_more bytes rest code parts part ends) = by_code is_more bytes rest code parts part ends
     by_part open_yet c e (PartView.stops front rest parts begins none) =
         subst (λ r. QuotedView text r) (sym (open_read text open_yet ∙ ap (closed_character text) e))
-          (subst (λ f. QuotedView text (Err f)) (sym (told_behind (length front) rest)) (stops_here text front rest open_yet parts begins none))
+        (subst (λ f. QuotedView text (Err f)) (sym (told_behind (length front) rest)) (stops_here text front rest open_yet parts begins none))
 
     by_test : (test : Bool) → begins_with 39 text ≡ test → QuotedView text (character_literal text)
-    by_test true e = subst (λ xs. QuotedView xs (character_literal xs)) (sym (quote_first text e)) (stops [] (39 ∷ drop 1 text) refl (begins_literal [] BeginsPart.nothing) (λ b bs others same. subst (λ c. is_err (character_literal (c ∷ others)) ≡ true) (same_head 39 b (drop 1 text) bs same) refl))
+    by_test true e = subst (λ xs. QuotedView xs (character_literal xs)) (sym (quote_first 39 text e)) (stops [] (39 ∷ drop 1 text) refl (begins_literal [] BeginsPart.nothing) (λ b bs others same. subst (λ c. is_err (character_literal (c ∷ others)) ≡ true) (same_head 39 b (drop 1 text) bs same) refl))
     by_test false e = by_part e (character_at 39 text) refl (part_view 39 text e)
 
 -- what is read behind a quote is a character

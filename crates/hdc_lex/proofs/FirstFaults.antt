@@ -45,6 +45,7 @@ other_byte is_member b quote none e same = false≢true (sym none ∙ sym (ap is
 begins_otherwise : (is_member : ℕ → Bool) (b : ℕ) (bs : List ℕ) (w : Word) → is_member 39 ≡ false → is_member 34 ≡ false → is_member b ≡ true → QuotedForm (b ∷ bs) w
 begins_otherwise is_member b bs w quote double e = (λ same. absurd (other_byte is_member b 39 quote e same), λ same. absurd (other_byte is_member b 34 double e same))
 
+-- a special byte is no quote
 special_is : (b : ℕ) (k : Key) → IsSpecial b k → is_one_of (34 ∷ 39 ∷ []) b ≡ false
 special_is b k IsSpecial.open_paren = refl
 special_is b k IsSpecial.close_paren = refl
@@ -56,10 +57,12 @@ special_is b k IsSpecial.open_brace = refl
 special_is b k IsSpecial.close_brace = refl
 special_is b k IsSpecial.backquote = refl
 
+-- a lexeme that is a run of bytes of a class without the quotes
 begins_by_run : (is_member : ℕ → Bool) (bytes : List ℕ) (w : Word) → is_member 39 ≡ false → is_member 34 ≡ false → is_run is_member bytes ≡ true → QuotedForm bytes w
 begins_by_run is_member [] w quote double run = tt
 begins_by_run is_member (b ∷ bs) w quote double run = begins_otherwise is_member b bs w quote double (and_parts (is_member b) (list_all is_member bs) run).0
 
+-- a lexeme has the form that its first byte tells
 quoted_form : (bytes : List ℕ) (w : Word) → IsLexeme bytes w → QuotedForm bytes w
 quoted_form bytes w (IsLexeme.small b bs e all) = begins_otherwise is_small b bs w refl refl e
 quoted_form bytes w (IsLexeme.capital b bs e all) = begins_otherwise is_capital b bs w refl refl e
@@ -92,9 +95,9 @@ first_fault quote front rest begins none = record {
     by_rest (b ∷ bs) none behind begins =
         let size : length (quote ∷ (front ++ (b ∷ []))) ≡ suc (length front) + 1 = omega (arith, length-append front (b ∷ [])) in
         let shape : take (suc (length front) + 1) (quote ∷ (front ++ (b ∷ bs))) ++ begins.0 ≡ quote ∷ (front ++ (b ∷ begins.0)) =
-            ap (λ xs. take (suc (length front) + 1) (quote ∷ xs) ++ begins.0) (sym (append_assoc front (b ∷ []) bs))
-              ∙ ap (λ xs. xs ++ begins.0) (take_at (quote ∷ (front ++ (b ∷ []))) bs (suc (length front) + 1) size)
-              ∙ ap (λ xs. quote ∷ xs) (append_assoc front (b ∷ []) begins.0) in
+        ap (λ xs. take (suc (length front) + 1) (quote ∷ xs) ++ begins.0) (sym (append_assoc front (b ∷ []) bs))
+        ∙ ap (λ xs. xs ++ begins.0) (take_at (quote ∷ (front ++ (b ∷ []))) bs (suc (length front) + 1) size)
+        ∙ ap (λ xs. quote ∷ xs) (append_assoc front (b ∷ []) begins.0) in
         none b bs begins.0 begins.1 refl (subst (λ xs. IsLexeme xs begins.1) shape begins.2)
 
 -- a fault at the front of a text is told from further on
@@ -106,6 +109,10 @@ further_stop n offset (b ∷ bs) = by_tests (b == 10) (is_printable b)
     by_tests true printable = refl
     by_tests false true = refl
     by_tests false false = refl
+
+-- the same from one byte further on
+pub told_behind : (size : ℕ) (rest : List ℕ) → further 1 (stop_at size rest) ≡ stop_at (suc size) rest
+told_behind size rest = let one : 1 + size ≡ suc size = omega arith in further_stop 1 size rest ∙ ap (λ n. stop_at n rest) one
 
 -- the piece that is read is a lexeme that begins with the quote
 pub record LexemeBehind (quote : ℕ) (text : List ℕ) (p : Piece) (size : ℕ) : Type 0 where
@@ -130,7 +137,7 @@ lexeme_behind quote inner rest w is text parts p size found =
     let same = same_found (piece.Lexeme w) p (length inner + 2) size found in
     let all : length (quote ∷ (inner ++ (quote ∷ []))) ≡ size = omega (arith, length-append inner (quote ∷ []), same.1) in
     let front : quote ∷ (inner ++ (quote ∷ [])) ≡ take size (quote ∷ text) =
-        sym (ap (λ xs. take size (quote ∷ xs)) (parts ∙ sym (append_assoc inner (quote ∷ []) rest)) ∙ take_at (quote ∷ (inner ++ (quote ∷ []))) rest size all) in
+    sym (ap (λ xs. take size (quote ∷ xs)) (parts ∙ sym (append_assoc inner (quote ∷ []) rest)) ∙ take_at (quote ∷ (inner ++ (quote ∷ []))) rest size all) in
     record {
       w = w;
       told = sym same.0;
@@ -142,4 +149,4 @@ lexeme_behind quote inner rest w is text parts p size found =
 pub fault_behind : (quote : ℕ) (front rest : List ℕ) → BeginsLexeme (quote ∷ front) → ((b : ℕ) (bs more : List ℕ) (w : Word) → rest ≡ b ∷ bs → IsLexeme (quote ∷ (front ++ (b ∷ more))) w → ⊥) → (text : List ℕ) → text ≡ front ++ rest → FaultBehind quote text (stop_at (suc (length front)) rest)
 fault_behind quote front rest begins none text parts =
     subst (λ xs. FaultBehind quote xs (stop_at (suc (length front)) rest)) (sym parts)
-      (record { offset = suc (length front); told = ap (stop_at (suc (length front))) (sym (drop_at (quote ∷ front) rest (suc (length front)) refl)); first = first_fault quote front rest begins none })
+    (record { offset = suc (length front); told = ap (stop_at (suc (length front))) (sym (drop_at (quote ∷ front) rest (suc (length front)) refl)); first = first_fault quote front rest begins none })

@@ -1,11 +1,10 @@
 -- The parts of a literal: its characters, and \& in a string.
-use Rattle.std.proofs.Common.{◌≡◌, ℕ, suc, ◌+◌, ◌<◌, ◌≤◌, List, [], ◌∷◌, ◌++◌, length, refl, sym, ap, subst, ◌∙◌, arith, Bool, true, false, cond, not, ◌&&◌, ◌==◌, is_err, Option, Some, None, Ok, Err}
+use Rattle.std.proofs.Common.{◌≡◌, ℕ, ◌<◌, List, [], ◌∷◌, ◌++◌, length, drop, refl, sym, ap, subst, ◌∙◌, arith, Bool, true, false, cond, not, ◌&&◌, ◌==◌, is_err, Option, Some, None, Ok, Err}
 use Rattle.std.proofs.lemmas.Bool.{false≢true, true≢false, eqb-true, eq-eqb}
 use Rattle.hdc_lex.specs.Bytes.{is_printable}
 use Rattle.hdc_lex.specs.Characters.{Character, stop_at, escape_at, character_at}
 use Rattle.hdc_lex.specs.Pieces.{begins_with}
 use Rattle.hdc_lex.specs.Grammar.{begins_with_member, is_plain, IsEscape}
-use Rattle.hdc_lex.specs.declared.lexeme.Fault.{Fault}
 use Rattle.hdc_lex.specs.declared.lexeme.Fault.TheVariants as fault
 use Rattle.hdc_lex.proofs.Runs.{begins_with_none}
 use Rattle.hdc_lex.proofs.Escapes.{EscapeView, escape_read, escape_view, same_head}
@@ -26,13 +25,14 @@ pub data PartView (quote : ℕ) (text : List ℕ) : Character → Type 0 where
   read : (is_more : ℕ → Bool) (bytes rest : List ℕ) (code : Option ℕ) → text ≡ bytes ++ rest → IsPart quote is_more bytes code → begins_with_member is_more rest ≡ false → PartView quote text (Ok (code, length bytes))
   stops : (front rest : List ℕ) → text ≡ front ++ rest → BeginsPart front → ((b : ℕ) (bs others : List ℕ) → rest ≡ b ∷ bs → is_err (character_at quote (front ++ (b ∷ others))) ≡ true) → PartView quote text (Err (stop_at (length front) rest))
 
--- the tests of a plain byte
+-- a byte is plain if it passes the tests
 plain_from : (printable is_quote is_backslash : Bool) → printable ≡ true → is_quote ≡ false → is_backslash ≡ false → (printable && not is_quote && not is_backslash) ≡ true
 plain_from true false false e f g = refl
 plain_from false is_quote is_backslash e f g = absurd (false≢true e)
 plain_from true true is_backslash e f g = absurd (true≢false f)
 plain_from true false true e f g = absurd (true≢false g)
 
+-- what the tests of a plain byte tell
 pub plain_parts : (printable is_quote is_backslash : Bool) → (printable && not is_quote && not is_backslash) ≡ true → (printable ≡ true) × (is_quote ≡ false) × (is_backslash ≡ false)
 plain_parts true false false e = (refl, refl, refl)
 plain_parts false is_quote is_backslash e = absurd (false≢true e)
@@ -43,6 +43,7 @@ plain_parts true false true e = absurd (false≢true e)
 abbrev character_by : (backslash printable : Bool) (quote b : ℕ) (bs : List ℕ) → Character
 character_by backslash printable quote b bs = cond backslash (escape_at quote bs) (cond printable (Ok (Some b, 1)) (Err (stop_at 0 (b ∷ bs))))
 
+-- what a byte behind which no escape stands is
 byte_read : (quote b : ℕ) (bs : List ℕ) (printable : Bool) → (b == 92) ≡ false → is_printable b ≡ printable → character_at quote (b ∷ bs) ≡ cond printable (Ok (Some b, 1)) (Err (stop_at 0 (b ∷ bs)))
 byte_read quote b bs printable e f = ap (λ t. character_by t (is_printable b) quote b bs) e ∙ ap (λ t. character_by false t quote b bs) f
 
@@ -67,18 +68,19 @@ part_view quote (b ∷ bs) open_yet = by_tests (b == 92) refl (is_printable b) r
     by_tests true e printable f = subst (λ b. PartView quote (b ∷ bs) (character_at quote (b ∷ bs))) (sym (eqb-true b 92 e)) (escape_part quote bs (escape_at quote bs) (escape_view quote bs))
     by_tests false e true f =
         subst (λ c. PartView quote (b ∷ bs) c) (sym (byte_read quote b bs true e f))
-          (read (λ digit. false) (b ∷ []) bs (Some b) refl (IsPart.plain b (plain_from (is_printable b) (b == quote) (b == 92) f open_yet e)) (begins_with_none bs))
+        (read (λ digit. false) (b ∷ []) bs (Some b) refl (IsPart.plain b (plain_from (is_printable b) (b == quote) (b == 92) f open_yet e)) (begins_with_none bs))
     by_tests false e false f =
         subst (λ c. PartView quote (b ∷ bs) c) (sym (byte_read quote b bs false e f))
-          (stops [] (b ∷ bs) refl nothing (λ c cs others same. subst (λ c. is_err (character_at quote (c ∷ others)) ≡ true) (same_head b c bs cs same) (ap (λ c. is_err c) (byte_read quote b others false e f))))
+        (stops [] (b ∷ bs) refl nothing (λ c cs others same. subst (λ c. is_err (character_at quote (c ∷ others)) ≡ true) (same_head b c bs cs same) (ap (λ c. is_err c) (byte_read quote b others false e f))))
 
--- the quotes make no escape longer
+-- a quote makes no escape longer
 pub ends_at_quote : (is_more : ℕ → Bool) (bytes : List ℕ) (code : ℕ) → IsEscape is_more bytes code → is_more 39 ≡ false
 ends_at_quote is_more bytes code (IsEscape.simple b c e) = refl
 ends_at_quote is_more bytes code (IsEscape.decimal digits run fits) = refl
 ends_at_quote is_more bytes code (IsEscape.hexadecimal digits run fits) = refl
 ends_at_quote is_more bytes code (IsEscape.octal digits run fits) = refl
 
+-- a double quote makes no escape longer
 pub ends_at_double_quote : (is_more : ℕ → Bool) (bytes : List ℕ) (code : ℕ) → IsEscape is_more bytes code → is_more 34 ≡ false
 ends_at_double_quote is_more bytes code (IsEscape.simple b c e) = refl
 ends_at_double_quote is_more bytes code (IsEscape.decimal digits run fits) = refl
@@ -96,3 +98,8 @@ pub part_has_some : (quote : ℕ) (is_more : ℕ → Bool) (bytes : List ℕ) (c
 part_has_some quote is_more bytes code (IsPart.plain b e) = omega arith
 part_has_some quote is_more bytes code (IsPart.escaped m escape c e) = omega arith
 part_has_some quote is_more bytes code (IsPart.empty e) = omega arith
+
+-- a text that begins with a quote
+pub quote_first : (quote : ℕ) (text : List ℕ) → begins_with quote text ≡ true → text ≡ quote ∷ drop 1 text
+quote_first quote [] e = absurd (false≢true e)
+quote_first quote (b ∷ bs) e = ap (λ c. c ∷ bs) (eqb-true b quote e)

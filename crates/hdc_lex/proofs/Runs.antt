@@ -1,8 +1,8 @@
 -- Runs of bytes of a class at the front of a text, and the numbers that runs of digits write.
-use Rattle.std.proofs.Common.{◌≡◌, ℕ, suc, ◌+◌, ◌*◌, ◌<◌, ◌≤◌, List, [], ◌∷◌, ◌++◌, length, refl, sym, ap, subst, ◌∙◌, arith, Bool, true, false, cond, le-mul_of_pos_right}
+use Rattle.std.proofs.Common.{◌≡◌, ℕ, suc, ◌+◌, ◌*◌, ◌<◌, ◌≤◌, List, [], ◌∷◌, ◌++◌, length, refl, ap, ◌∙◌, arith, Bool, true, false, cond, le-mul_of_pos_right}
 use Rattle.std.specs.Prelude.{nat_le}
 use Rattle.std.specs.List.{list_all, prefix_len}
-use Rattle.std.proofs.lemmas.Bool.{false≢true, and_from, and_parts, leb-true, leb-false}
+use Rattle.std.proofs.lemmas.Bool.{and_from, and_parts, leb-true, leb-false}
 use Rattle.hdc_lex.specs.Grammar.{begins_with_member}
 use Rattle.hdc_lex.specs.Numbers.{digit_value, number_after}
 

@@ -1,31 +1,26 @@
 -- Strings: what is read is a lexeme, each lexeme is read, and where none is the fault is the first.
-use Rattle.std.proofs.Common.{◌≡◌, ℕ, zero, suc, ◌+◌, ◌<◌, ◌≤◌, List, [], ◌∷◌, ◌++◌, length, take, drop, refl, sym, ap, subst, ◌∙◌, arith, Bool, true, false, cond, ◌==◌, is_err, Option, Some, None, Ok, Err}
-use Rattle.std.proofs.lemmas.Bool.{false≢true, true≢false, eqb-true}
+use Rattle.std.proofs.Common.{◌≡◌, ℕ, zero, suc, ◌+◌, ◌<◌, ◌≤◌, List, [], ◌∷◌, ◌++◌, length, drop, refl, sym, ap, subst, ◌∙◌, arith, Bool, true, false, is_err, Option, Some, None, Ok, Err}
+use Rattle.std.proofs.lemmas.Bool.{false≢true}
 use Rattle.std.proofs.lemmas.List.{append-nil, append_assoc, length-append, drop_at}
 use Rattle.hdc_base.specs.declared.token.Word.{Word}
 use Rattle.hdc_base.specs.declared.token.Word.TheVariants as word
 use Rattle.hdc_lex.specs.Characters.{Character, stop_at, character_at}
-use Rattle.hdc_lex.specs.Pieces.{further, Found, lexeme, begins_with, Codes, with_front, code_list, behind_character, string_codes, as_string, string_literal}
-use Rattle.hdc_lex.specs.Grammar.{begins_with_member, IsEscape, AreCharacters, IsLexeme}
+use Rattle.hdc_lex.specs.Pieces.{further, lexeme, begins_with, Codes, with_front, code_list, behind_character, string_codes, as_string, string_literal}
+use Rattle.hdc_lex.specs.Grammar.{begins_with_member, AreCharacters, IsLexeme}
 use Rattle.hdc_lex.specs.Fronts.{BeginsLexeme}
 use Rattle.hdc_lex.specs.declared.lexeme.Fault.{Fault}
-use Rattle.hdc_lex.specs.declared.lexeme.Fault.TheVariants as fault
 use Rattle.hdc_lex.specs.declared.lexeme.Piece.{Piece}
-use Rattle.hdc_lex.specs.declared.lexeme.Piece.TheVariants as piece
+use Rattle.hdc_lex.proofs.Strings.{at_character}
 use Rattle.hdc_lex.proofs.Runs.{begins_with_none, begins_the_same, begins_with_next}
-use Rattle.hdc_lex.proofs.Parts.{IsPart, BeginsPart, PartView, part_read, part_view, part_is_no_quote, part_has_some, ends_at_double_quote}
-use Rattle.hdc_lex.proofs.FirstFaults.{IsDoubleQuoted, double_quoted_is, further_stop, LexemeBehind, FaultBehind, lexeme_behind, fault_behind}
-
--- where the quote is not at the front, the string goes on with a character
-at_character : (most : ℕ) (text : List ℕ) → begins_with 34 text ≡ false → string_codes (suc most) text ≡ behind_character (character_at 34 text) (λ size. string_codes most (drop size text))
-at_character most text e = ap (λ t. cond t (Ok ([], 1)) (behind_character (character_at 34 text) (λ size. string_codes most (drop size text)))) e
+use Rattle.hdc_lex.proofs.Parts.{IsPart, BeginsPart, PartView, part_read, part_view, part_is_no_quote, part_has_some, ends_at_double_quote, quote_first}
+use Rattle.hdc_lex.proofs.FirstFaults.{double_quoted_is, further_stop, told_behind, LexemeBehind, FaultBehind, lexeme_behind, fault_behind}
 
 -- the codes behind a part
 behind_part : (is_more : ℕ → Bool) (bytes : List ℕ) (code : Option ℕ) (rest : List ℕ) (most : ℕ) → IsPart 34 is_more bytes code → begins_with_member is_more rest ≡ false → string_codes (suc most) (bytes ++ rest) ≡ with_front (code_list code) (length bytes) (string_codes most rest)
 behind_part is_more bytes code rest most part ends =
     at_character most (bytes ++ rest) (part_is_no_quote 34 is_more bytes code rest refl part)
-      ∙ ap (λ c. behind_character c (λ size. string_codes most (drop size (bytes ++ rest)))) (part_read 34 is_more bytes code rest part ends)
-      ∙ ap (λ xs. with_front (code_list code) (length bytes) (string_codes most xs)) (drop_at bytes rest (length bytes) refl)
+    ∙ ap (λ c. behind_character c (λ size. string_codes most (drop size (bytes ++ rest)))) (part_read 34 is_more bytes code rest part ends)
+    ∙ ap (λ xs. with_front (code_list code) (length bytes) (string_codes most xs)) (drop_at bytes rest (length bytes) refl)
 
 -- what does not begin with a byte of a class, with a quote behind it that is none
 begins_before_quote : (is_more : ℕ → Bool) (bytes rest : List ℕ) → is_more 34 ≡ false → begins_with_member is_more bytes ≡ false → begins_with_member is_more (bytes ++ (34 ∷ rest)) ≡ false
@@ -44,9 +39,9 @@ read_more is_more part code bytes codes rest (suc most) is ends short later =
     let size : length part + (length bytes + 1) ≡ length (part ++ bytes) + 1 = omega (arith, length-append part bytes) in
     let left : length bytes < most = omega (arith, short, length-append part bytes, part_has_some 34 is_more part code is) in
     ap (string_codes (suc most)) (append_assoc part bytes (34 ∷ rest))
-      ∙ behind_part is_more part code (bytes ++ (34 ∷ rest)) most is ends
-      ∙ ap (with_front (code_list code) (length part)) (later most left)
-      ∙ ap (λ n. Ok (code_list code ++ codes, n)) size
+    ∙ behind_part is_more part code (bytes ++ (34 ∷ rest)) most is ends
+    ∙ ap (with_front (code_list code) (length part)) (later most left)
+    ∙ ap (λ n. Ok (code_list code ++ codes, n)) size
 
 -- the characters of a string are read up to its quote
 codes_read : (bytes codes : List ℕ) → AreCharacters bytes codes → (rest : List ℕ) (most : ℕ) → length bytes < most → string_codes most (bytes ++ (34 ∷ rest)) ≡ Ok (codes, length bytes + 1)
@@ -74,11 +69,12 @@ data StringView (text : List ℕ) : Codes → Type 0 where
   read : (bytes codes rest : List ℕ) → text ≡ bytes ++ (34 ∷ rest) → AreCharacters bytes codes → StringView text (Ok (codes, length bytes + 1))
   stops : (front more rest codes : List ℕ) → text ≡ front ++ rest → AreCharacters (front ++ more) codes → ((is_more : ℕ → Bool) → begins_with_member is_more (front ++ rest) ≡ false → begins_with_member is_more (front ++ more) ≡ false) → ((b : ℕ) (bs others : List ℕ) (most : ℕ) → rest ≡ b ∷ bs → is_err (string_codes most (front ++ (b ∷ others))) ≡ true) → StringView text (Err (stop_at (length front) rest))
 
--- what is an error behind a part or in it is one with it
+-- what is an error behind a part is one with it
 err_in_front : (codes : List ℕ) (size : ℕ) (r : Codes) → is_err r ≡ true → is_err (with_front codes size r) ≡ true
 err_in_front codes size (Ok found) e = absurd (false≢true e)
 err_in_front codes size (Err f) e = refl
 
+-- what is an error in a character is one of the string
 err_at_character : (c : Character) (rest : ℕ → Codes) → is_err c ≡ true → is_err (behind_character c rest) ≡ true
 err_at_character (Ok found) rest e = absurd (false≢true e)
 err_at_character (Err f) rest e = refl
@@ -89,8 +85,8 @@ next_behind is_more part code front rest is ends none b bs others zero same = re
 next_behind is_more part code front rest is ends none b bs others (suc most) same =
     let shared : begins_with_member is_more (front ++ (b ∷ others)) ≡ false = begins_with_next is_more front b others bs ∙ ap (λ xs. begins_with_member is_more (front ++ xs)) (sym same) ∙ ends in
     ap (λ xs. is_err (string_codes (suc most) xs)) (append_assoc part front (b ∷ others))
-      ∙ ap (λ r. is_err r) (behind_part is_more part code (front ++ (b ∷ others)) most is shared)
-      ∙ err_in_front (code_list code) (length part) (string_codes most (front ++ (b ∷ others))) (none b bs others most same)
+    ∙ ap (λ r. is_err r) (behind_part is_more part code (front ++ (b ∷ others)) most is shared)
+    ∙ err_in_front (code_list code) (length part) (string_codes most (front ++ (b ∷ others))) (none b bs others most same)
 
 -- one more part in front of a text
 view_more : (is_more : ℕ → Bool) (part : List ℕ) (code : Option ℕ) (text : List ℕ) → IsPart 34 is_more part code → begins_with_member is_more text ≡ false → (r : Codes) → StringView text r → StringView (part ++ text) (with_front (code_list code) (length part) r)
@@ -98,22 +94,17 @@ view_more is_more part code text is ends r (StringView.read bytes codes rest par
     let size : length (part ++ bytes) + 1 ≡ length part + (length bytes + 1) = omega (arith, length-append part bytes) in
     let apart : begins_with_member is_more bytes ≡ false = begins_without is_more bytes (34 ∷ rest) (sym (ap (begins_with_member is_more) parts) ∙ ends) in
     subst (λ n. StringView (part ++ text) (Ok (code_list code ++ codes, n))) size
-      (read (part ++ bytes) (code_list code ++ codes) rest (ap (λ xs. part ++ xs) parts ∙ sym (append_assoc part bytes (34 ∷ rest))) (part_more is_more part code bytes codes is apart are))
+    (read (part ++ bytes) (code_list code ++ codes) rest (ap (λ xs. part ++ xs) parts ∙ sym (append_assoc part bytes (34 ∷ rest))) (part_more is_more part code bytes codes is apart are))
 view_more is_more part code text is ends r (StringView.stops front more rest codes parts are begins none) =
     let told : stop_at (length (part ++ front)) rest ≡ further (length part) (stop_at (length front) rest) = ap (λ n. stop_at n rest) (length-append part front) ∙ sym (further_stop (length part) (length front) rest) in
     let ends_there : begins_with_member is_more (front ++ rest) ≡ false = sym (ap (begins_with_member is_more) parts) ∙ ends in
     let shape : (part ++ front) ++ more ≡ part ++ (front ++ more) = append_assoc part front more in
     let some : 0 < length (part ++ front) = omega (arith, length-append part front, part_has_some 34 is_more part code is) in
     subst (λ f. StringView (part ++ text) (Err f)) told
-      (stops (part ++ front) more rest (code_list code ++ codes) (ap (λ xs. part ++ xs) parts ∙ sym (append_assoc part front rest))
-        (subst (λ xs. AreCharacters xs (code_list code ++ codes)) (sym shape) (part_more is_more part code (front ++ more) codes is (begins is_more ends_there) are))
-        (λ m e. begins_the_same m (part ++ front) more rest some ∙ e)
-        (next_behind is_more part code front rest is ends_there none))
-
--- a text that begins with the quote
-quote_first : (text : List ℕ) → begins_with 34 text ≡ true → text ≡ 34 ∷ drop 1 text
-quote_first [] e = absurd (false≢true e)
-quote_first (b ∷ bs) e = ap (λ c. c ∷ bs) (eqb-true b 34 e)
+    (stops (part ++ front) more rest (code_list code ++ codes) (ap (λ xs. part ++ xs) parts ∙ sym (append_assoc part front rest))
+    (subst (λ xs. AreCharacters xs (code_list code ++ codes)) (sym shape) (part_more is_more part code (front ++ more) codes is (begins is_more ends_there) are))
+    (λ m e. begins_the_same m (part ++ front) more rest some ∙ e)
+    (next_behind is_more part code front rest is ends_there none))
 
 -- bytes with which a part begins stop a string where they stop the part
 stops_here : (text front rest : List ℕ) → begins_with 34 text ≡ false → text ≡ front ++ rest → BeginsPart front → ((b : ℕ) (bs others : List ℕ) → rest ≡ b ∷ bs → is_err (character_at 34 (front ++ (b ∷ others))) ≡ true) → StringView text (Err (stop_at (length front) rest))
@@ -123,7 +114,7 @@ stops_here text front rest open_yet parts BeginsPart.nothing none = stops [] [] 
     none_at b bs others zero same = refl
     none_at b bs others (suc most) same =
         ap (λ r. is_err r) (at_character most (b ∷ others) (sym (ap (begins_with 34) (parts ∙ same)) ∙ open_yet))
-          ∙ err_at_character (character_at 34 (b ∷ others)) (λ size. string_codes most (drop size (b ∷ others))) (none b bs others same)
+        ∙ err_at_character (character_at 34 (b ∷ others)) (λ size. string_codes most (drop size (b ∷ others))) (none b bs others same)
 stops_here text front rest open_yet parts (BeginsPart.begun is_more start more code e) none =
     stops (92 ∷ start) more rest (code ∷ []) parts (subst (λ xs. AreCharacters (92 ∷ xs) (code ∷ [])) (append-nil (start ++ more)) (AreCharacters.escaped is_more (start ++ more) [] code [] e refl AreCharacters.none)) (λ m same. same) none_at
   where
@@ -142,11 +133,11 @@ string_view (suc most) text short = by_test (λ rest h. string_view most rest h)
         let left : length rest ≤ most = omega (arith, short, ap length parts, length-append bytes rest, part_has_some 34 is_more bytes code is) in
         let back : drop (length bytes) text ≡ rest = ap (drop (length bytes)) parts ∙ drop_at bytes rest (length bytes) refl in
         subst (λ xs. StringView text (with_front (code_list code) (length bytes) (string_codes most xs))) (sym back)
-          (subst (λ xs. StringView xs (with_front (code_list code) (length bytes) (string_codes most rest))) (sym parts) (view_more is_more bytes code rest is ends (string_codes most rest) (later rest left)))
+        (subst (λ xs. StringView xs (with_front (code_list code) (length bytes) (string_codes most rest))) (sym parts) (view_more is_more bytes code rest is ends (string_codes most rest) (later rest left)))
     by_part later open_yet c e (PartView.stops front rest parts begins none) = stops_here text front rest open_yet parts begins none
 
     by_test : ((rest : List ℕ) → length rest ≤ most → StringView rest (string_codes most rest)) → (test : Bool) → begins_with 34 text ≡ test → StringView text (string_codes (suc most) text)
-    by_test later true e = subst (λ xs. StringView xs (string_codes (suc most) xs)) (sym (quote_first text e)) (read [] [] (drop 1 text) refl AreCharacters.none)
+    by_test later true e = subst (λ xs. StringView xs (string_codes (suc most) xs)) (sym (quote_first 34 text e)) (read [] [] (drop 1 text) refl AreCharacters.none)
     by_test later false e = subst (λ r. StringView text r) (sym (at_character most text e)) (by_part later e (character_at 34 text) refl (part_view 34 text e))
 
 -- what is read behind a double quote is a string
@@ -173,9 +164,8 @@ string_fault text f found = by_view (string_codes (length text) text) (string_vi
     by_view : (r : Codes) → StringView text r → as_string r ≡ Err f → FaultBehind 34 text f
     by_view r (StringView.read bytes codes rest parts are) e = cc e
     by_view r (StringView.stops front more rest codes parts are begins none) e =
-        let one : 1 + length front ≡ suc (length front) = omega arith in
         let same_fault : further 1 (stop_at (length front) rest) ≡ f = cc e in
-        let told : stop_at (suc (length front)) rest ≡ f = ap (λ n. stop_at n rest) (sym one) ∙ sym (further_stop 1 (length front) rest) ∙ same_fault in
+        let told : stop_at (suc (length front)) rest ≡ f = sym (told_behind (length front) rest) ∙ same_fault in
         let whole : IsLexeme (34 ∷ (front ++ (more ++ (34 ∷ [])))) (word.Str codes) = subst (λ xs. IsLexeme (34 ∷ xs) (word.Str codes)) (append_assoc front more (34 ∷ [])) (IsLexeme.string (front ++ more) codes are) in
         let begun : BeginsLexeme (34 ∷ front) = (more ++ (34 ∷ []), word.Str codes, whole) in
         subst (λ g. FaultBehind 34 text g) told (fault_behind 34 front rest begun (no_string front rest none) text parts)
