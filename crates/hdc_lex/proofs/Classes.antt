@@ -1,11 +1,10 @@
 -- What the class of a byte tells, and which bytes have a class.
 use Rattle.std.proofs.Common.{◌≡◌, ℕ, List, [], ◌∷◌, refl, sym, ap, subst, ◌∙◌, arith, Bool, true, false, cond}
-use Rattle.std.specs.Prelude.{◌&&◌, ◌||◌, ◌==◌, nat_le, codes}
-use Rattle.std.specs.List.{list_any, list_all, take_while}
+use Rattle.std.specs.Prelude.{◌||◌, ◌==◌, nat_le, codes}
+use Rattle.std.specs.List.{list_any}
 use Rattle.std.proofs.lemmas.Bool.{false≢true}
 use Rattle.std.proofs.lemmas.Bool.Decides.{nat_tests}
 use Rattle.hdc_base.specs.declared.token.Key.{Key}
-use Rattle.hdc_base.specs.declared.token.Key.TheVariants as key
 use Rattle.hdc_lex.specs.Bytes.{is_one_of, is_white, is_small, is_capital, is_digit, is_symbol, class_of, class_of_rest}
 use Rattle.hdc_lex.specs.Grammar.{IsSpecial, open_paren, close_paren, comma, semicolon, open_bracket, close_bracket, open_brace, close_brace, backquote}
 use Rattle.hdc_lex.specs.declared.class.Class.{Class}

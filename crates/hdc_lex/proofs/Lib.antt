@@ -6,7 +6,11 @@ pub mod NestedComments
 pub mod Strings
 pub mod Classes
 pub mod Runs
-pub mod Stubs
+pub mod FirstFaults
+pub mod Escapes
+pub mod Parts
+pub mod CharacterLiterals
+pub mod StringLiterals
 pub mod Longest
 pub mod OnePiece
 pub mod Lexemes

@@ -1,14 +1,13 @@
 -- The longest lexeme at the front of a text, as a function.
-use Rattle.std.proofs.Common.{◌≡◌, ℕ, ◌+◌, ◌≤◌, ◌<◌, List, [], ◌∷◌, ◌++◌, length, take, drop, refl, sym, ap, subst, ◌∙◌, arith, Bool, true, false, cond, Option, Some, None, Ok, Err}
+use Rattle.std.proofs.Common.{◌≡◌, ℕ, ◌+◌, ◌≤◌, List, [], ◌∷◌, ◌++◌, length, take, drop, refl, sym, ap, subst, ◌∙◌, arith, Bool, true, false, cond, Option, Some, None, Ok, Err}
 use Rattle.std.specs.Prelude.{IfSome, ◌&&◌, ◌||◌, ◌==◌, if◌then◌else◌}
 use Rattle.std.specs.List.{list_all, prefix_len, take_while}
 use Rattle.std.specs.Option.{is_some}
 use Rattle.std.proofs.lemmas.Bool.{false≢true, and_parts}
 use Rattle.std.proofs.lemmas.Bool.Decides.{nat_tests}
-use Rattle.std.proofs.lemmas.List.{take-append-drop, append_assoc, append-nil, length-append, length-take, length-drop}
+use Rattle.std.proofs.lemmas.List.{take-append-drop, append_assoc, length-append, length-take}
 use Rattle.std.proofs.lemmas.List.Sums.{prefix_len-le-length}
 use Rattle.std.proofs.Math.Seq.{take-append_seam}
-use Rattle.hdc_base.specs.declared.token.Key.{Key}
 use Rattle.hdc_base.specs.declared.token.Key.TheVariants as key
 use Rattle.hdc_base.specs.declared.token.Word.{Word}
 use Rattle.hdc_base.specs.declared.token.Word.TheVariants as word
@@ -20,12 +19,13 @@ use Rattle.hdc_lex.specs.Grammar.{IsLexeme, small, capital, symbols, decimal, he
 use Rattle.hdc_lex.specs.Fronts.{IsLongest, HasNoLexeme}
 use Rattle.hdc_lex.specs.declared.class.Class.{Class}
 use Rattle.hdc_lex.specs.declared.class.Class.TheVariants as class
-use Rattle.hdc_lex.specs.declared.lexeme.Fault.{Fault}
 use Rattle.hdc_lex.specs.declared.lexeme.Piece.{Piece}
 use Rattle.hdc_lex.specs.declared.lexeme.Piece.TheVariants as piece
 use Rattle.hdc_lex.proofs.Classes.{Meets, meets, small_class, capital_class, symbol_class, digit_class, special_class}
 use Rattle.hdc_lex.proofs.Runs.{run_over, run_passes, take_one_more, take_two_more}
-use Rattle.hdc_lex.proofs.Stubs.{character_read, character_is, string_read, string_is}
+use Rattle.hdc_lex.proofs.FirstFaults.{LexemeBehind}
+use Rattle.hdc_lex.proofs.CharacterLiterals.{character_read, character_is}
+use Rattle.hdc_lex.proofs.StringLiterals.{string_read, string_is}
 
 -- the lexeme of what is found
 abbrev pub lexeme_in : Found → Option (Word × ℕ)
@@ -138,7 +138,7 @@ covers _ _ rest (hexadecimal x (d ∷ ds) h e) =
     let found : has_radix 120 88 is_hexadecimal (48 ∷ x ∷ d ∷ (ds ++ rest)) ≡ true = ap (λ t. t && is_hexadecimal d) second ∙ parts.0 in
     let over = run_over is_hexadecimal (d ∷ ds) rest e in
     covers_as _ _ _ _ (ap (λ t. number_in (cond t (number_of 16 (radix_digits is_hexadecimal (48 ∷ x ∷ d ∷ (ds ++ rest))), 2 + prefix_len is_hexadecimal (d ∷ (ds ++ rest))) (cond (has_radix 111 79 is_octal (48 ∷ x ∷ d ∷ (ds ++ rest))) (number_of 8 (radix_digits is_octal (48 ∷ x ∷ d ∷ (ds ++ rest))), 2 + prefix_len is_octal (d ∷ (ds ++ rest))) (number_of 10 (take (decimal_size (48 ∷ x ∷ d ∷ (ds ++ rest))) (48 ∷ x ∷ d ∷ (ds ++ rest))), decimal_size (48 ∷ x ∷ d ∷ (ds ++ rest)))))) found)
-      (record { v = _; size = _; is = refl; far = omega (arith, over); same = λ k. ap (λ bytes. word.Num (number_of 16 bytes)) (radix_digits_same is_hexadecimal (d ∷ ds) rest e (omega (arith, k))) })
+    (record { v = _; size = _; is = refl; far = omega (arith, over); same = λ k. ap (λ bytes. word.Num (number_of 16 bytes)) (radix_digits_same is_hexadecimal (d ∷ ds) rest e (omega (arith, k))) })
 covers _ _ rest (octal o [] h e) = absurd (false≢true e)
 covers _ _ rest (octal o (d ∷ ds) h e) =
     let parts = and_parts (is_octal d) (list_all is_octal ds) e in
@@ -148,7 +148,7 @@ covers _ _ rest (octal o (d ∷ ds) h e) =
     let found : has_radix 111 79 is_octal (48 ∷ o ∷ d ∷ (ds ++ rest)) ≡ true = ap (λ t. t && is_octal d) second ∙ parts.0 in
     let over = run_over is_octal (d ∷ ds) rest e in
     covers_as _ _ _ _ (ap (λ t. number_in (cond t (number_of 16 (radix_digits is_hexadecimal (48 ∷ o ∷ d ∷ (ds ++ rest))), 2 + prefix_len is_hexadecimal (d ∷ (ds ++ rest))) (cond (has_radix 111 79 is_octal (48 ∷ o ∷ d ∷ (ds ++ rest))) (number_of 8 (radix_digits is_octal (48 ∷ o ∷ d ∷ (ds ++ rest))), 2 + prefix_len is_octal (d ∷ (ds ++ rest))) (number_of 10 (take (decimal_size (48 ∷ o ∷ d ∷ (ds ++ rest))) (48 ∷ o ∷ d ∷ (ds ++ rest))), decimal_size (48 ∷ o ∷ d ∷ (ds ++ rest)))))) none ∙ ap (λ t. number_in (cond t (number_of 8 (radix_digits is_octal (48 ∷ o ∷ d ∷ (ds ++ rest))), 2 + prefix_len is_octal (d ∷ (ds ++ rest))) (number_of 10 (take (decimal_size (48 ∷ o ∷ d ∷ (ds ++ rest))) (48 ∷ o ∷ d ∷ (ds ++ rest))), decimal_size (48 ∷ o ∷ d ∷ (ds ++ rest))))) found)
-      (record { v = _; size = _; is = refl; far = omega (arith, over); same = λ k. ap (λ bytes. word.Num (number_of 8 bytes)) (radix_digits_same is_octal (d ∷ ds) rest e (omega (arith, k))) })
+    (record { v = _; size = _; is = refl; far = omega (arith, over); same = λ k. ap (λ bytes. word.Num (number_of 8 bytes)) (radix_digits_same is_octal (d ∷ ds) rest e (omega (arith, k))) })
 covers _ _ rest (character bytes code h) =
     let read = ap character_literal (append_assoc bytes (39 ∷ []) rest) ∙ character_read bytes code rest h in
     covers_as _ _ _ _ (ap lexeme_in read) (record { v = _; size = _; is = refl; far = omega (arith, length-append bytes (39 ∷ [])); same = λ e. refl })
@@ -170,10 +170,10 @@ word_in (piece.Lexeme w) = w
 word_in piece.White = word.Key key.KDots
 word_in piece.Comment = word.Key key.KDots
 
-literal_lies : (b : ℕ) (bs : List ℕ) (r : Found) → ((p : Piece) (size : ℕ) → r ≡ Ok (p, size) → (w : Word) × (p ≡ piece.Lexeme w) × (size ≤ 1 + length bs) × IsLexeme (take size (b ∷ bs)) w) → Lies (b ∷ bs) (lexeme_in r)
+literal_lies : (b : ℕ) (bs : List ℕ) (r : Found) → ((p : Piece) (size : ℕ) → r ≡ Ok (p, size) → LexemeBehind b bs p size) → Lies (b ∷ bs) (lexeme_in r)
 literal_lies b bs (Ok (piece.Lexeme w, size)) is =
-    let (v, same, within, lx) = is (piece.Lexeme w) size refl in
-    (omega (arith, within), subst (IsLexeme (take size (b ∷ bs))) (ap word_in (sym same)) lx)
+    let found = is (piece.Lexeme w) size refl in
+    (omega (arith, found.within), subst (IsLexeme (take size (b ∷ bs))) (ap word_in (sym found.told)) found.lexeme)
 literal_lies b bs (Ok (piece.White, size)) is = tt
 literal_lies b bs (Ok (piece.Comment, size)) is = tt
 literal_lies b bs (Err f) is = tt
@@ -210,8 +210,8 @@ lies (b ∷ bs) = by_class (class_of b) (meets b (class_of b) refl)
     by_class class.Digit m = number_lies b bs m
     by_class class.Symbol m = name_lies symbol is_symbol b bs (λ bytes e. symbols (b ∷ bytes) (ap (λ t. t && list_all is_symbol bytes) m ∙ e))
     by_class (class.Special k) m = (omega arith, special b k m)
-    by_class class.Quote m = literal_lies b bs (character_literal bs) (λ p size e. subst (λ q. (w : Word) × (p ≡ piece.Lexeme w) × (size ≤ 1 + length bs) × IsLexeme (take size (q ∷ bs)) w) (sym m) (character_is bs p size e))
-    by_class class.DoubleQuote m = literal_lies b bs (string_literal bs) (λ p size e. subst (λ q. (w : Word) × (p ≡ piece.Lexeme w) × (size ≤ 1 + length bs) × IsLexeme (take size (q ∷ bs)) w) (sym m) (string_is bs p size e))
+    by_class class.Quote m = literal_lies b bs (character_literal bs) (λ p size e. subst (λ q. LexemeBehind q bs p size) (sym m) (character_is bs p size e))
+    by_class class.DoubleQuote m = literal_lies b bs (string_literal bs) (λ p size e. subst (λ q. LexemeBehind q bs p size) (sym m) (string_is bs p size e))
     by_class class.Other m = tt
 
 abbrev size_in : Option (Word × ℕ) → ℕ
@@ -234,9 +234,9 @@ longest_is text w size e =
       within = within;
       lexeme = lx;
       longest = λ n v h other.
-        let c = covers_front text n v h other in
-        let same : c.size ≡ size = ap size_in (sym c.is ∙ e) in
-        omega (arith, c.far, same, length-take n text, h);
+          let c = covers_front text n v h other in
+          let same : c.size ≡ size = ap size_in (sym c.is ∙ e) in
+          omega (arith, c.far, same, length-take n text, h);
     }
 
 -- and the longest is found

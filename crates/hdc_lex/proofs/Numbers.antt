@@ -6,7 +6,8 @@ use Rattle.std.proofs.lemmas.Bool.Decides.{nat_tests}
 use Rattle.hdc_lex.specs.Numbers.{digit_value, number_after, number_of, number_within}
 use Rattle.hdc_lex.specs.declared.lexeme.Fault.TheVariants as fault
 
-joined : (radix n : ℕ) (xs ys : List ℕ) → number_after radix n (xs ++ ys) ≡ number_after radix (number_after radix n xs) ys
+-- digits behind digits
+pub joined : (radix n : ℕ) (xs ys : List ℕ) → number_after radix n (xs ++ ys) ≡ number_after radix (number_after radix n xs) ys
 joined radix n [] ys = refl
 joined radix n (x ∷ xs) ys = joined radix (n * radix + digit_value x) xs ys
 

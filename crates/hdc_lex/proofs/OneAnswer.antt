@@ -1,5 +1,5 @@
 -- A text has one answer: of two states to which pieces lead, one leads to the other.
-use Rattle.std.proofs.Common.{◌≡◌, ℕ, ◌<◌, ◌≤◌, List, [], ◌∷◌, ◌++◌, length, take, drop, refl, sym, ap, subst, ◌∙◌, arith, Bool, false, Result, Ok, Err, ◌⊎◌, inl, inr}
+use Rattle.std.proofs.Common.{◌≡◌, ℕ, ◌<◌, ◌≤◌, List, [], ◌∷◌, ◌++◌, length, take, drop, refl, sym, ap, subst, arith, Bool, false, Result, Ok, Err, ◌⊎◌, inl, inr}
 use Rattle.std.proofs.Math.Seq.{take-nil}
 use Rattle.std.proofs.lemmas.List.{length-append}
 use Rattle.std.proofs.lemmas.Bool.{false≢true}
@@ -8,8 +8,6 @@ use Rattle.hdc_base.specs.declared.token.Token.{Token}
 use Rattle.hdc_base.specs.declared.token.Word.{Word}
 use Rattle.hdc_lex.specs.Place.{first_place, behind_all}
 use Rattle.hdc_lex.specs.Numbers.{greatest_number}
-use Rattle.hdc_lex.specs.Bytes.{is_digit, is_symbol}
-use Rattle.hdc_lex.specs.Grammar.{is_run, IsLexeme, small, capital, symbols, decimal, hexadecimal, octal, character, string, special}
 use Rattle.hdc_lex.specs.Fronts.{IsPiece, IsFault}
 use Rattle.hdc_lex.specs.Fronts.IsFault.{number, comment, literal, byte}
 use Rattle.hdc_lex.specs.Lexing.{most_lexemes, minus_after, tokens_of, Begins, none, more, stop_of, IsStop, Lexes, OneAnswer}

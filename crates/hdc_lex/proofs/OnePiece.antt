@@ -9,16 +9,15 @@ use Rattle.std.proofs.lemmas.Bool.Decides.{nat_tests}
 use Rattle.std.proofs.lemmas.List.{append_assoc, length-append, length-take, take-append-drop, take-take}
 use Rattle.std.proofs.lemmas.List.Sums.{prefix_len-le-length}
 use Rattle.hdc_base.specs.declared.token.Key.{Key}
-use Rattle.hdc_base.specs.declared.token.Key.TheVariants as key
 use Rattle.hdc_base.specs.declared.token.Word.{Word}
 use Rattle.hdc_base.specs.declared.token.Word.TheVariants as word
-use Rattle.hdc_lex.specs.Bytes.{class_of, is_white, is_one_of, is_small, is_symbol, is_digit, is_hexadecimal, is_octal}
+use Rattle.hdc_lex.specs.Bytes.{class_of, is_white, is_one_of, is_symbol, is_digit, is_hexadecimal, is_octal}
 use Rattle.hdc_lex.specs.Words.{variable, symbol, key_under, reserved_words, reserved_operators}
 use Rattle.hdc_lex.specs.Numbers.{number_at, number_of, number_within, has_radix, has_fraction, radix_digits, decimal_size}
 use Rattle.hdc_lex.specs.Characters.{stop_at}
-use Rattle.hdc_lex.specs.Pieces.{Found, piece_at, piece_by, symbols_at, special_at, symbol_size, line_size, name_size, as_number, block_comment, character_literal, string_literal, comment_end}
+use Rattle.hdc_lex.specs.Pieces.{Found, piece_at, piece_by, symbols_at, special_at, symbol_size, line_size, as_number, block_comment, character_literal, string_literal, comment_end}
 use Rattle.hdc_lex.specs.Grammar.{begins_with_both}
-use Rattle.hdc_lex.specs.Grammar.{IsLexeme, small, capital, symbols, decimal, hexadecimal, octal, character, string, special, begins_with_member, is_run, IsCharacter, AreCharacters, plain, IsSpecial, open_paren, close_paren, comma, semicolon, open_bracket, close_bracket, open_brace, close_brace, backquote}
+use Rattle.hdc_lex.specs.Grammar.{IsLexeme, small, capital, symbols, decimal, hexadecimal, octal, character, string, special, begins_with_member, AreCharacters, plain, IsSpecial, open_paren, close_paren, comma, semicolon, open_bracket, close_bracket, open_brace, close_brace, backquote}
 use Rattle.hdc_lex.specs.Fronts.{EndsComment, is_dashes, begins_line_comment, begins_comment, IsLongest, is_above, is_malformed, IsPiece, white, line, comment, lexeme, BeginsLexeme, IsFirstFault, HasNoLexeme, IsFault, number, literal, byte}
 use Rattle.hdc_lex.specs.declared.class.Class.{Class}
 use Rattle.hdc_lex.specs.declared.class.Class.TheVariants as class
@@ -26,11 +25,13 @@ use Rattle.hdc_lex.specs.declared.lexeme.Fault.{Fault}
 use Rattle.hdc_lex.specs.declared.lexeme.Fault.TheVariants as fault
 use Rattle.hdc_lex.specs.declared.lexeme.Piece.{Piece}
 use Rattle.hdc_lex.specs.declared.lexeme.Piece.TheVariants as piece
-use Rattle.hdc_lex.proofs.Classes.{Meets, meets, white_class, small_class, capital_class, symbol_class, digit_class, special_class}
+use Rattle.hdc_lex.proofs.Classes.{Meets, meets, white_class, symbol_class, digit_class}
 use Rattle.hdc_lex.proofs.Runs.{run_passes, take_one_more, take_two_more}
 use Rattle.hdc_lex.proofs.Longest.{lexeme_in, longest_number, number_in, longest_by, longest_at, radix_second, covers, longest_is, is_longest, none_found}
 use Rattle.hdc_lex.proofs.NestedComments.{comment_read, comment_is}
-use Rattle.hdc_lex.proofs.Stubs.{character_is, character_fault, string_is, string_fault}
+use Rattle.hdc_lex.proofs.FirstFaults.{LexemeBehind, FaultBehind}
+use Rattle.hdc_lex.proofs.CharacterLiterals.{character_is, character_fault}
+use Rattle.hdc_lex.proofs.StringLiterals.{string_is, string_fault}
 
 -- what stands at the front by the definition, for what the function finds
 abbrev Stands : ℕ → List ℕ → Found → Type 0
@@ -234,17 +235,17 @@ special_fronts greatest b bs k m e = by_test bs (begins_with_both 123 45 (b ∷ 
 no_lexeme : (p : Piece) (w : Word) → is_lexeme p ≡ false → p ≡ piece.Lexeme w → ⊥
 no_lexeme p w h e = false≢true (sym h ∙ ap is_lexeme e)
 
-literal_fronts : (greatest b : ℕ) (bs : List ℕ) (r : Found) → begins_with_member (is_one_of (34 ∷ 39 ∷ [])) (b ∷ bs) ≡ true → is_symbol b ≡ false → (b == 123) ≡ false → is_digit b ≡ false → longest_at (b ∷ bs) ≡ lexeme_in r → ((p : Piece) (size : ℕ) → r ≡ Ok (p, size) → (w : Word) × (p ≡ piece.Lexeme w) × (size ≤ 1 + length bs) × IsLexeme (take size (b ∷ bs)) w) → ((f : Fault) → r ≡ Err f → (n : ℕ) × (f ≡ stop_at n (drop n (b ∷ bs))) × IsFirstFault (b ∷ bs) n) → Stands greatest (b ∷ bs) r
+literal_fronts : (greatest b : ℕ) (bs : List ℕ) (r : Found) → begins_with_member (is_one_of (34 ∷ 39 ∷ [])) (b ∷ bs) ≡ true → is_symbol b ≡ false → (b == 123) ≡ false → is_digit b ≡ false → longest_at (b ∷ bs) ≡ lexeme_in r → ((p : Piece) (size : ℕ) → r ≡ Ok (p, size) → LexemeBehind b bs p size) → ((f : Fault) → r ≡ Err f → FaultBehind b bs f) → Stands greatest (b ∷ bs) r
 literal_fronts greatest b bs (Ok (piece.Lexeme w, size)) q s o d e good bad = front_lexeme greatest b bs w size (no_comment b bs s o) d e
 literal_fronts greatest b bs (Ok (piece.White, size)) q s o d e good bad =
-    let (w, same, within, lx) = good piece.White size refl in
-    absurd (no_lexeme piece.White w refl same)
+    let found = good piece.White size refl in
+    absurd (no_lexeme piece.White found.w refl found.told)
 literal_fronts greatest b bs (Ok (piece.Comment, size)) q s o d e good bad =
-    let (w, same, within, lx) = good piece.Comment size refl in
-    absurd (no_lexeme piece.Comment w refl same)
+    let found = good piece.Comment size refl in
+    absurd (no_lexeme piece.Comment found.w refl found.told)
 literal_fronts greatest b bs (Err f) q s o d e good bad =
-    let (n, same, first) = bad f refl in
-    subst (IsFault greatest (b ∷ bs)) (sym same) (literal n q (none_found (b ∷ bs) e) first)
+    let found = bad f refl in
+    subst (IsFault greatest (b ∷ bs)) (sym found.told) (literal found.offset q (none_found (b ∷ bs) e) found.first)
 
 -- no lexeme begins with a byte of no class
 nothing_begins : (b : ℕ) → class_of b ≡ class.Other → BeginsLexeme (b ∷ []) → ⊥
@@ -354,13 +355,13 @@ first_same text n m a b = by_order (cases_order n m)
     by_order (inr (inl h)) = absurd (earlier n m a b h)
     by_order (inr (inr h)) = absurd (earlier m n b a h)
 
-literal_read : (b : ℕ) (bs : List ℕ) (n : ℕ) (r : Found) → HasNoLexeme (b ∷ bs) → IsFirstFault (b ∷ bs) n → ((p : Piece) (size : ℕ) → r ≡ Ok (p, size) → (w : Word) × (p ≡ piece.Lexeme w) × (size ≤ 1 + length bs) × IsLexeme (take size (b ∷ bs)) w) → ((f : Fault) → r ≡ Err f → (n : ℕ) × (f ≡ stop_at n (drop n (b ∷ bs))) × IsFirstFault (b ∷ bs) n) → r ≡ Err (stop_at n (drop n (b ∷ bs)))
+literal_read : (b : ℕ) (bs : List ℕ) (n : ℕ) (r : Found) → HasNoLexeme (b ∷ bs) → IsFirstFault (b ∷ bs) n → ((p : Piece) (size : ℕ) → r ≡ Ok (p, size) → LexemeBehind b bs p size) → ((f : Fault) → r ≡ Err f → FaultBehind b bs f) → r ≡ Err (stop_at n (drop n (b ∷ bs)))
 literal_read b bs n (Ok (p, size)) none first good bad =
-    let (w, same, within, lx) = good p size refl in
-    absurd (none size w (omega (arith, within)) lx)
+    let found = good p size refl in
+    absurd (none size found.w (omega (arith, found.within)) found.lexeme)
 literal_read b bs n (Err f) none first good bad =
-    let (m, same, other) = bad f refl in
-    ap Err (same ∙ ap (λ k. stop_at k (drop k (b ∷ bs))) (first_same (b ∷ bs) m n other first))
+    let found = bad f refl in
+    ap Err (found.told ∙ ap (λ k. stop_at k (drop k (b ∷ bs))) (first_same (b ∷ bs) found.offset n found.first first))
 
 quote_read : (greatest b : ℕ) (bs : List ℕ) (n : ℕ) → is_one_of (34 ∷ 39 ∷ []) b ≡ true → HasNoLexeme (b ∷ bs) → IsFirstFault (b ∷ bs) n → piece_at greatest (b ∷ bs) ≡ Err (stop_at n (drop n (b ∷ bs)))
 quote_read greatest b bs n q none first = by_test (34 == b) refl

@@ -21,7 +21,7 @@ with_twice xs ys n m (Ok more) = let e : n + (m + more.1) ≡ n + m + more.1 = o
 with_twice xs ys n m (Err f) = ap Err (further_twice n m f)
 
 -- at a character
-at_character : (most : ℕ) (rest : List ℕ) → begins_with 34 rest ≡ false → string_codes (suc most) rest ≡ behind_character (character_at 34 rest) (λ size. string_codes most (drop size rest))
+pub at_character : (most : ℕ) (rest : List ℕ) → begins_with 34 rest ≡ false → string_codes (suc most) rest ≡ behind_character (character_at 34 rest) (λ size. string_codes most (drop size rest))
 at_character most rest g = ap (λ t. cond t (Ok ([], 1)) (behind_character (character_at 34 rest) (λ size. string_codes most (drop size rest)))) g
 
 pub codes_more : (text codes : List ℕ) (offset size : ℕ) (code : Option ℕ) → CodesSoFar text codes offset → begins_with 34 (drop offset text) ≡ false → character_at 34 (drop offset text) ≡ Ok (code, size) → 0 < size → size ≤ length (drop offset text) → CodesSoFar text (codes ++ code_list code) (offset + size)
