@@ -62,11 +62,15 @@ ends n before_where (block.Implicit m) = nat_lt n m || ((m == n) && before_where
 ends n before_where block.Explicit = false
 ends n before_where block.Nowhere = false
 
--- a line at a column gives a ; in an implicit block of its own column
+-- the block is implicit, of the column
+abbrev pub is_at : ℕ → Block → Bool
+is_at n (block.Implicit m) = m == n
+is_at n block.Explicit = false
+is_at n block.Nowhere = false
+
+-- a line at the column of the current block gives a ;
 abbrev pub semicolon : ℕ → At → Block → List Laid
-semicolon n at (block.Implicit m) = if m == n then insert key.KSemicolon at ∷ [] else []
-semicolon n at block.Explicit = []
-semicolon n at block.Nowhere = []
+semicolon n at b = if is_at n b then insert key.KSemicolon at ∷ [] else []
 
 -- a line first ends the current blocks that it ends, each with all above it
 abbrev pub after_ends : ℕ → At → Step → Step
@@ -117,18 +121,23 @@ take_answer a at stack =
     if finds a stack then (let s = close_while (is_above a) at stack in step s.gives (answered a s.stack))
     else step [] stack
 
--- a token by its role, or the place where its } ends no explicit block
-abbrev pub role_step : Role → Token → List Entry → Result Step At
-role_step role.OpenBrace t stack = Ok (step (given t ∷ []) (entry.Explicit ∷ stack))
-role_step role.CloseBrace t stack = if is_explicit (current stack) then Ok (step (given t ∷ []) (below_block stack)) else Err t.at
-role_step (role.Opens o) t stack = Ok (step (given t ∷ []) (entry.Opener o ∷ stack))
-role_step (role.Answers a) t stack = Ok (gives_behind (take_answer a t.at stack) (given t ∷ []))
-role_step role.Where t stack = Ok (step (given t ∷ []) stack)
-role_step role.Module t stack = Ok (step (given t ∷ []) stack)
-role_step role.Other t stack = Ok (step (given t ∷ []) stack)
+-- what a token of a role at a place closes, and the stack that is left, or the place where a } ends no explicit block
+abbrev pub role_step : Role → At → List Entry → Result Step At
+role_step role.OpenBrace at stack = Ok (step [] (entry.Explicit ∷ stack))
+role_step role.CloseBrace at stack = if is_explicit (current stack) then Ok (step [] (below_block stack)) else Err at
+role_step (role.Opens o) at stack = Ok (step [] (entry.Opener o ∷ stack))
+role_step (role.Answers a) at stack = Ok (take_answer a at stack)
+role_step role.Where at stack = Ok (step [] stack)
+role_step role.Module at stack = Ok (step [] stack)
+role_step role.Other at stack = Ok (step [] stack)
+
+-- a token is given behind what it closes
+abbrev pub and_given : Token → Result Step At → Result Step At
+and_given t (Ok s) = Ok (gives_behind s (given t ∷ []))
+and_given t (Err at) = Err at
 
 abbrev pub token_step : Token → List Entry → Result Step At
-token_step t stack = role_step (role_of t.word) t stack
+token_step t stack = and_given t (role_step (role_of t.word) t.at stack)
 
 -- tokens, or the place of a brace
 abbrev pub Answered : Type 0

@@ -5,13 +5,13 @@ ghost use Rattle.hdc_layout.specs.Blocks.{top as top_of};
 ghost use Rattle.hdc_layout.specs.LaidOut.{IsAnswer};
 ghost use Rattle.hdc_layout.specs.declared.summary.Entry.{Entry};
 ghost use Rattle.hdc_layout.specs.Progress.{after_step, after_steps, is_above_block, removes, with_laid, Leaves};
-ghost use Rattle.hdc_layout.specs.Rules.{begin_block, close_while, ends, finish, insert, is_above, line, mark_step, step, take_answer, token_step};
+ghost use Rattle.hdc_layout.specs.Rules.{begin_block, close_while, ends, finish, insert, is_above, is_at, line, mark_step, role_step, step, take_answer, token_step};
 
 use crate::mark::Mark;
 use crate::role::{Answer, Opener, Role, answers, role_of};
 use crate::stack::Stack;
 use crate::stop::LayoutStop;
-use crate::summary::{Block, Entry, column};
+use crate::summary::{Block, Entry, column, is_explicit};
 use hdc_base::{At, Key, Token, Tokens, Word};
 use std::alloc::{AllocError, Global};
 
@@ -58,19 +58,7 @@ impl Layout {
     pub fn token(&mut self, token: Token) -> Result<(), LayoutStop>
         ensures { Leaves (after_steps self.old (token_step token self.old.stack)) self.new result }
     {
-        match role_of(&token.word) {
-            Role::OpenBrace => self.stack.push(Entry::Explicit)?,
-            Role::CloseBrace => {
-                if self.stack.current() != Block::Explicit {
-                    return Err(LayoutStop::Brace(token.at));
-                }
-                self.close(Cause::Brace, token.at)?;
-                self.remove_top();
-            }
-            Role::Opens(opener) => self.stack.push(Entry::Opener(opener))?,
-            Role::Answers(answer) => self.take_answer(answer, token.at)?,
-            Role::Where | Role::Module | Role::Other => {}
-        }
+        self.role(role_of(&token.word), token.at)?;
         self.laid.push(token)?;
         Ok(())
     }
@@ -81,17 +69,37 @@ impl Layout {
     {
         let mut layout = self;
         layout.close(Cause::Brace, end)?;
-        if layout.stack.top() != None {
-            return Err(LayoutStop::Brace(end));
+        match layout.stack.top() {
+            Some(_) => Err(LayoutStop::Brace(end)),
+            None => Ok(layout.laid),
         }
-        Ok(layout.laid)
+    }
+
+    // Closes what a token of the role closes.
+    fn role(&mut self, role: Role, at: At) -> Result<(), LayoutStop>
+        ensures { Leaves (after_steps self.old (role_step role at self.old.stack)) self.new result }
+    {
+        match role {
+            Role::OpenBrace => self.stack.push(Entry::Explicit)?,
+            Role::CloseBrace => {
+                if !is_explicit(self.stack.current()) {
+                    return Err(LayoutStop::Brace(at));
+                }
+                self.close(Cause::Brace, at)?;
+                self.remove_top();
+            }
+            Role::Opens(opener) => self.stack.push(Entry::Opener(opener))?,
+            Role::Answers(answer) => self.take_answer(answer, at)?,
+            Role::Where | Role::Module | Role::Other => {}
+        }
+        Ok(())
     }
 
     fn line(&mut self, column: u32, before_where: bool, at: At) -> Result<(), AllocError>
         ensures { OnOk result (self.new ≡ after_step self.old (line column before_where at self.old.stack)) }
     {
         self.close(Cause::Line(column, before_where), at)?;
-        if self.stack.current() == Block::Implicit(column) {
+        if is_at(column, self.stack.current()) {
             self.insert(Key::KSemicolon, at)?;
         }
         Ok(())
@@ -171,6 +179,15 @@ fn ends(column: u32, before_where: bool, block: Block) -> bool
 {
     match block {
         Block::Implicit(own) => column < own || (own == column && before_where),
+        Block::Explicit | Block::Nowhere => false,
+    }
+}
+
+fn is_at(column: u32, block: Block) -> bool
+    ensures { result ≡ is_at column block }
+{
+    match block {
+        Block::Implicit(own) => own == column,
         Block::Explicit | Block::Nowhere => false,
     }
 }

@@ -1,7 +1,7 @@
 //! What an entry of a stack knows of the stack up to it.
 
 ghost use Rattle.std.specs.Prelude.{◌≡◌, List, [], ◌∷◌, false};
-ghost use Rattle.hdc_layout.specs.Blocks.{column, finds, summary_of};
+ghost use Rattle.hdc_layout.specs.Blocks.{column, finds, is_explicit, summary_of};
 ghost use Rattle.hdc_layout.specs.declared.summary.Entry.{Entry};
 
 use crate::role::{Answer, Opener};
@@ -107,6 +107,13 @@ pub fn column(block: Block) -> u32
         Block::Implicit(column) => column,
         Block::Explicit | Block::Nowhere => 0,
     }
+}
+
+/// Whether the block is explicit.
+pub fn is_explicit(block: Block) -> bool
+    ensures { result ≡ is_explicit block }
+{
+    matches!(block, Block::Explicit)
 }
 
 fn no_openers(block: Block) -> Summary
