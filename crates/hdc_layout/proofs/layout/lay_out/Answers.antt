@@ -13,5 +13,5 @@ loop-token-preserved c =
 pub returns : goal.returns
 returns c =
     subst (λ answer. IsAnswer answer c.finish.result)
-    (sym (up_to_end (laid_out c.args.tokens c.args.end) c.loop-token.layout c.mark-2.new.self c.loop-token.before c.mark_at_end.result c.loop-token.ahead c.args.end c.loop-token.invariant c.in_default.ensures c.mark_at_end.ensures c.in_ok-mark-2.ensures))
+    (sym (up_to_end (laid_out c.args.tokens c.args.end) c.loop-token.layout c.mark-2.new.self c.loop-token.before c.mark_at_end.result c.loop-token.ahead c.args.end c.loop-token.invariant c.in_default.ensures.0 c.mark_at_end.ensures c.in_ok-mark-2.ensures))
     c.finish.ensures
