@@ -21,3 +21,6 @@ mod summary;
 pub use laws::keeps_tokens;
 pub use layout::lay_out;
 pub use stop::LayoutStop;
+
+#[cfg(test)]
+mod tests;
