@@ -1,6 +1,9 @@
 -- The laid-out tokens of a list of tokens.
-use Rattle.std.specs.Prelude.{◌≡◌, List, [], ◌∷◌, ◌++◌, Result, Ok, Err}
+use Rattle.std.specs.Prelude.{◌≡◌, List, [], ◌∷◌, ◌++◌, ◌⊎◌, Result, Ok, Err}
 use Rattle.hdc_base.specs.declared.place.At.{At}
+use Rattle.hdc_base.specs.declared.token.Key.TheVariants as key
+use Rattle.hdc_base.specs.declared.token.Word.{Word}
+use Rattle.hdc_base.specs.declared.token.Word.TheVariants as word
 use Rattle.hdc_base.specs.declared.token.Token.{Token}
 use Rattle.hdc_layout.specs.declared.mark.Before.TheVariants as before
 use Rattle.hdc_layout.specs.declared.stop.LayoutStop.{LayoutStop}
@@ -41,6 +44,27 @@ IsAnswer answer (Err stop.Want) = Unit {0}
 -- the answer for tokens and their end; want of memory tells nothing
 abbrev pub LaysOut : List Token → At → Result (List Token) LayoutStop → Type 0
 LaysOut tokens end answer = IsAnswer (laid_out tokens end) answer
+
+-- the place of the next token of the text, or the end
+abbrev pub next_place : List Laid → At → At
+next_place [] end = end
+next_place (given t ∷ laid) end = t.at
+next_place (inserted t ∷ laid) end = next_place laid end
+
+-- a brace or a semicolon
+abbrev pub IsInsertion : Word → Type 0
+IsInsertion w = (w ≡ word.Key key.KOpenBrace) ⊎ ((w ≡ word.Key key.KCloseBrace) ⊎ (w ≡ word.Key key.KSemicolon))
+
+-- each inserted token is a brace or a semicolon, and has the place of the token of the text before which it stands, or
+-- of the end
+abbrev pub ArePlaced : List Laid → At → Type 0
+ArePlaced [] end = Unit {0}
+ArePlaced (given t ∷ laid) end = ArePlaced laid end
+ArePlaced (inserted t ∷ laid) end = (t.at ≡ next_place laid end) × IsInsertion t.word × ArePlaced laid end
+
+-- the answer has its inserted tokens in their places
+abbrev pub PlacesInserted : List Token → At → Type 0
+PlacesInserted tokens end = (laid : List Laid) → laid_list tokens end ≡ Ok laid → ArePlaced laid end
 
 -- without the inserted tokens the answer is the given list
 abbrev pub KeepsTokens : List Token → At → Type 0

@@ -5,7 +5,8 @@
 //! between the tokens, and the rules are applied to the list of both with a stack of blocks and
 //! openers. The code goes once over the tokens and makes no such list. An entry of its stack knows
 //! what stands below it, so that it only walks over entries that it removes. `keeps_tokens` says that
-//! without the inserted tokens the answer is the list that was given.
+//! without the inserted tokens the answer is the list that was given, and `places_inserted` where the
+//! inserted ones stand.
 #![tactic(auto)]
 
 mod ahead;
@@ -18,7 +19,7 @@ mod stack;
 mod stop;
 mod summary;
 
-pub use laws::keeps_tokens;
+pub use laws::{keeps_tokens, places_inserted};
 pub use layout::lay_out;
 pub use stop::LayoutStop;
 

@@ -1,6 +1,6 @@
 //! Tokens and their layouts, worked out by hand.
 
-use super::{keeps_tokens, lay_out};
+use super::{keeps_tokens, lay_out, places_inserted};
 use hdc_base::{At, Key, Text, Token, Tokens, Word};
 use std::alloc::Global;
 use std::test::Fail;
@@ -181,6 +181,7 @@ const LINES: [(&str, &str); 22] = [
 #[test]
 fn lines_and_blocks(rt: HostRuntime) -> Result<(), Fail> {
     keeps_tokens();
+    places_inserted();
     let alloc = rt.alloc();
     for (text, laid) in LINES {
         assert_eq!(rt; show(alloc, text)?.as_str(), laid, "{text}");
@@ -339,5 +340,84 @@ fn brackets(rt: HostRuntime) -> Result<(), Fail> {
     for (text, laid) in BRACKETS {
         assert_eq!(rt; show(alloc, text)?.as_str(), laid, "{text}");
     }
+    Ok(())
+}
+
+const MANY: u32 = 131_072;
+
+fn place(tokens: &mut Tokens, key: Key, line: u32, col: u32) -> Result<(), Fail> {
+    tokens.push(Token {
+        at: At { line, col },
+        word: Word::Key(key),
+    })?;
+    Ok(())
+}
+
+fn count_laid(alloc: Global, tokens: Tokens) -> Result<usize, Fail> {
+    match lay_out(alloc, tokens, At { line: MANY, col: 1 }) {
+        Ok(laid) => Ok(laid.len()),
+        Err(_) => Err(Fail::from("no layout")),
+    }
+}
+
+// Each of these would take hours if a token walked over the stack and left it as it is.
+#[test]
+fn openers_on_lines(rt: HostRuntime) -> Result<(), Fail> {
+    let alloc = rt.alloc();
+    for key in [Key::KOpenParen, Key::KIf, Key::KCase] {
+        let mut tokens = Tokens::new(alloc);
+        for line in 0..MANY {
+            place(&mut tokens, key, line, 1)?;
+        }
+        // A block, and a semicolon before each line but the first.
+        assert_eq!(rt; count_laid(alloc, tokens)?, 131_072 + 2 + 131_071);
+    }
+    Ok(())
+}
+
+#[test]
+fn answers_that_find_nothing(rt: HostRuntime) -> Result<(), Fail> {
+    let alloc = rt.alloc();
+    let mut tokens = Tokens::new(alloc);
+    for _ in 0..MANY {
+        place(&mut tokens, Key::KIf, 1, 1)?;
+    }
+    for _ in 0..MANY {
+        place(&mut tokens, Key::KIn, 1, 1)?;
+        place(&mut tokens, Key::KCloseParen, 1, 1)?;
+        place(&mut tokens, Key::KComma, 1, 1)?;
+    }
+    assert_eq!(rt; count_laid(alloc, tokens)?, 4 * 131_072 + 2);
+    Ok(())
+}
+
+#[test]
+fn blocks_that_one_answer_ends(rt: HostRuntime) -> Result<(), Fail> {
+    let alloc = rt.alloc();
+    let mut tokens = Tokens::new(alloc);
+    place(&mut tokens, Key::KLet, 1, 1)?;
+    for col in 2..MANY {
+        place(&mut tokens, Key::KWhere, 1, col)?;
+    }
+    place(&mut tokens, Key::KBar, 1, MANY)?;
+    place(&mut tokens, Key::KIn, 1, MANY)?;
+    // A block for the text and one behind each of the first 131,071 tokens, two braces each.
+    assert_eq!(rt; count_laid(alloc, tokens)?, 131_073 + 2 * 131_072);
+    Ok(())
+}
+
+#[test]
+fn lines_at_falling_columns(rt: HostRuntime) -> Result<(), Fail> {
+    let alloc = rt.alloc();
+    let mut tokens = Tokens::new(alloc);
+    for col in 1..MANY {
+        place(&mut tokens, Key::KWhere, 1, col)?;
+    }
+    place(&mut tokens, Key::KBar, 1, MANY)?;
+    for line in 2..MANY {
+        place(&mut tokens, Key::KBar, line, MANY.saturating_sub(line))?;
+    }
+    // A block at each of the columns from 1 to 131,072, and a semicolon before each later line.
+    assert_eq!(rt; count_laid(alloc, tokens)?, 131_072 + 131_070 + 2 * 131_072 + 131_070);
     Ok(())
 }
