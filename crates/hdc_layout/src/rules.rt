@@ -34,6 +34,7 @@ pub enum Cause {
 }
 
 impl Layout {
+    /// A layout that has taken nothing yet.
     pub fn new(alloc: Global) -> Layout
         ensures { result ≡ record { stack = []; laid = [] } }
     {
@@ -124,11 +125,11 @@ impl Layout {
         }
         self.close(Cause::Answer(answer), at)?;
         match answer {
-            Answer::Comma => {}
             Answer::Then => {
                 self.remove_top();
                 self.stack.push(Entry::Opener(Opener::Then))?;
             }
+            Answer::Comma => {}
             _ => self.remove_top(),
         }
         Ok(())

@@ -35,6 +35,7 @@ impl Model for Stack {
 }
 
 impl Stack {
+    /// A stack without entries.
     pub fn new(alloc: Global) -> Stack
         ensures { result ≡ [] }
     {

@@ -130,10 +130,7 @@ const LINES: [(&str, &str); 22] = [
     ("a\n\n\nb c", "{1:1 a ;4:1 b c }4:4"),
     ("a\n", "{1:1 a }2:1"),
     // Blocks behind `where`.
-    (
-        "f where\n x\n y",
-        "{1:1 f where {2:2 x ;3:2 y }3:3 }3:3",
-    ),
+    ("f where\n x\n y", "{1:1 f where {2:2 x ;3:2 y }3:3 }3:3"),
     (
         "f = x\n where y = a\ng",
         "{1:1 f = x where {2:8 y = a }3:1 ;3:1 g }3:2",
@@ -230,10 +227,7 @@ fn braces(rt: HostRuntime) -> Result<(), Fail> {
 const KEYWORDS: [(&str, &str); 19] = [
     // `in` ends the blocks above its `let`.
     ("let x in y", "{1:1 let {1:5 x }1:7 in y }1:11"),
-    (
-        "a = let x\n    in y",
-        "{1:1 a = let {1:9 x }2:5 in y }2:9",
-    ),
+    ("a = let x\n    in y", "{1:1 a = let {1:9 x }2:5 in y }2:9"),
     ("let x\nin y", "{1:1 let {1:5 x }2:1 ;2:1 in y }2:5"),
     (
         "a let b where c in d",
@@ -298,10 +292,7 @@ fn keywords(rt: HostRuntime) -> Result<(), Fail> {
 
 const BRACKETS: [(&str, &str); 16] = [
     // Brackets end the blocks inside them.
-    (
-        "( case a of b )",
-        "{1:1 ( case a of {1:13 b }1:15 ) }1:16",
-    ),
+    ("( case a of b )", "{1:1 ( case a of {1:13 b }1:15 ) }1:16"),
     ("[ let a ]", "{1:1 [ let {1:7 a }1:9 ] }1:10"),
     ("( ( a ) , b )", "{1:1 ( ( a ) , b ) }1:14"),
     ("a (\nb )", "{1:1 a ( ;2:1 b ) }2:4"),
@@ -323,10 +314,7 @@ const BRACKETS: [(&str, &str); 16] = [
     ),
     ("a , b", "{1:1 a , b }1:6"),
     ("let a , b in c", "{1:1 let {1:5 a , b }1:11 in c }1:15"),
-    (
-        "( let { a , b } )",
-        "{1:1 ( let {1:7 a , b }1:15 ) }1:18",
-    ),
+    ("( let { a , b } )", "{1:1 ( let {1:7 a , b }1:15 ) }1:18"),
     // A closed bracket is gone.
     (
         "( ( let a ) let b , c )",
@@ -418,6 +406,9 @@ fn lines_at_falling_columns(rt: HostRuntime) -> Result<(), Fail> {
         place(&mut tokens, Key::KBar, line, MANY.saturating_sub(line))?;
     }
     // A block at each of the columns from 1 to 131,072, and a semicolon before each later line.
-    assert_eq!(rt; count_laid(alloc, tokens)?, 131_072 + 131_070 + 2 * 131_072 + 131_070);
+    assert_eq!(rt;
+        count_laid(alloc, tokens)?,
+        131_072 + 131_070 + 2 * 131_072 + 131_070
+    );
     Ok(())
 }
