@@ -1,0 +1,4 @@
+pub mod Found
+pub mod Closing
+pub mod Whole
+pub mod Kept

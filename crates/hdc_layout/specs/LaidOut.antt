@@ -1,0 +1,71 @@
+-- The laid-out tokens of a list of tokens.
+use Rattle.std.specs.Prelude.{◌≡◌, List, [], ◌∷◌, ◌++◌, ◌⊎◌, Result, Ok, Err}
+use Rattle.hdc_base.specs.declared.place.At.{At}
+use Rattle.hdc_base.specs.declared.token.Key.TheVariants as key
+use Rattle.hdc_base.specs.declared.token.Word.{Word}
+use Rattle.hdc_base.specs.declared.token.Word.TheVariants as word
+use Rattle.hdc_base.specs.declared.token.Token.{Token}
+use Rattle.hdc_layout.specs.declared.mark.Before.TheVariants as before
+use Rattle.hdc_layout.specs.declared.stop.LayoutStop.{LayoutStop}
+use Rattle.hdc_layout.specs.declared.stop.LayoutStop.TheVariants as stop
+use Rattle.hdc_layout.specs.Marks.{marked_list}
+use Rattle.hdc_layout.specs.Rules.{Laid, given, inserted, Answered, apply}
+
+-- the answer for the tokens of a text and its end, which tells given tokens from inserted ones
+abbrev pub laid_list : List Token → At → Answered
+laid_list tokens end = apply (marked_list before.Beginning tokens end) end []
+
+-- given and inserted tokens alike
+abbrev pub tokens_of : List Laid → List Token
+tokens_of [] = []
+tokens_of (given t ∷ laid) = t ∷ tokens_of laid
+tokens_of (inserted t ∷ laid) = t ∷ tokens_of laid
+
+-- the given tokens alone
+abbrev pub without_inserted : List Laid → List Token
+without_inserted [] = []
+without_inserted (given t ∷ laid) = t ∷ without_inserted laid
+without_inserted (inserted t ∷ laid) = without_inserted laid
+
+abbrev pub forget : Answered → Result (List Token) At
+forget (Ok laid) = Ok (tokens_of laid)
+forget (Err at) = Err at
+
+-- the laid-out tokens, or the place of the brace
+abbrev pub laid_out : List Token → At → Result (List Token) At
+laid_out tokens end = forget (laid_list tokens end)
+
+-- an answer in a program; want of memory tells nothing
+abbrev pub IsAnswer : Result (List Token) At → Result (List Token) LayoutStop → Type 0
+IsAnswer answer (Ok laid) = answer ≡ Ok laid
+IsAnswer answer (Err (stop.Brace at)) = answer ≡ Err at
+IsAnswer answer (Err stop.Want) = Unit {0}
+
+-- the answer for tokens and their end; want of memory tells nothing
+abbrev pub LaysOut : List Token → At → Result (List Token) LayoutStop → Type 0
+LaysOut tokens end answer = IsAnswer (laid_out tokens end) answer
+
+-- the place of the next token of the text, or the end
+abbrev pub next_place : List Laid → At → At
+next_place [] end = end
+next_place (given t ∷ laid) end = t.at
+next_place (inserted t ∷ laid) end = next_place laid end
+
+-- a brace or a semicolon
+abbrev pub IsInsertion : Word → Type 0
+IsInsertion w = (w ≡ word.Key key.KOpenBrace) ⊎ ((w ≡ word.Key key.KCloseBrace) ⊎ (w ≡ word.Key key.KSemicolon))
+
+-- each inserted token is a brace or a semicolon, and has the place of the token of the text before which it stands, or
+-- of the end
+abbrev pub ArePlaced : List Laid → At → Type 0
+ArePlaced [] end = Unit {0}
+ArePlaced (given t ∷ laid) end = ArePlaced laid end
+ArePlaced (inserted t ∷ laid) end = (t.at ≡ next_place laid end) × IsInsertion t.word × ArePlaced laid end
+
+-- the answer has its inserted tokens in their places
+abbrev pub PlacesInserted : List Token → At → Type 0
+PlacesInserted tokens end = (laid : List Laid) → laid_list tokens end ≡ Ok laid → ArePlaced laid end
+
+-- without the inserted tokens the answer is the given list
+abbrev pub KeepsTokens : List Token → At → Type 0
+KeepsTokens tokens end = (laid : List Laid) → laid_list tokens end ≡ Ok laid → without_inserted laid ≡ tokens
