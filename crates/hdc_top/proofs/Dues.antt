@@ -1,22 +1,35 @@
 -- What is due, from what the parts of a job answer.
-use Rattle.std.proofs.Common.{◌≡◌, ◌≢◌, ℕ, suc, ◌<◌, ◌≤◌, List, [], length, Option, Some, None, Result, Ok, Err, refl, sym, ap, ◌∙◌, subst, arith}
+use Rattle.std.proofs.Common.{◌≡◌, ◌≢◌, ℕ, suc, ◌<◌, ◌≤◌, List, [], length, Option, Some, None, Result, Ok, Err, inl, inr, refl, sym, ap, ◌∙◌, subst, arith}
 use Rattle.std.specs.Prelude.{IfSome, IfOk, replicate}
 use Rattle.std.proofs.lemmas.List.{length-replicate}
+use Rattle.hdc_base.specs.declared.place.At.{At}
+use Rattle.hdc_base.specs.declared.token.Token.{Token}
 use Rattle.hdc_base.specs.declared.refusal.Want.{Want}
+use Rattle.hdc_base.specs.declared.refusal.Refusal.{Refusal}
+use Rattle.hdc_base.specs.declared.refusal.Stop.{Stop}
+use Rattle.hdc_base.specs.declared.refusal.Stop.TheVariants as stop
+use Rattle.hdc_base.specs.declared.refusal.Kind.TheVariants as kind
+use Rattle.hdc_lex.specs.declared.lexeme.Form.TheVariants as form
+use Rattle.hdc_lex.specs.declared.lexer.LexStop.{LexStop}
+use Rattle.hdc_lex.specs.declared.lexer.LexStop.TheVariants as lex
+use Rattle.hdc_lex.specs.Lexing.{Lexes}
+use Rattle.hdc_lex.proofs.OneAnswer.{same_answer}
+use Rattle.hdc_layout.specs.LaidOut.{laid_out}
+use Rattle.hdc_tree.specs.Program.{IsProgram, SpellsNone}
 use Rattle.hdc_value.specs.declared.outcome.Outcome.{Outcome}
 use Rattle.hdc_value.specs.declared.outcome.Outcome.TheVariants as outcome
 use Rattle.hdc_value.specs.Answer.{Answer}
 use Rattle.hdc_tree.specs.Tree.{Tree}
-use Rattle.hdc_tree.specs.Program.{IsProgram, SpellsNone}
 use Rattle.hdc_tree.specs.Meaning.{eval, meaning}
 use Rattle.hdc_tree.proofs.Programs.{same_tree}
 use Rattle.hdc_code.specs.declared.instr.Instr.{Instr}
 use Rattle.hdc_code.specs.Sound.{EndsWith}
 use Rattle.hdc_top.specs.declared.job.Due.{Due}
 use Rattle.hdc_top.specs.Code.{CarriesMeaning}
+use Rattle.hdc_top.specs.Stopped.{most_bytes, lexer_stop, not_yet, refused_at, end_place, HasLayout, SpellsTree, IsStopped, lexemes, layout, not_built, IsRefused, PassesLimit}
 use Rattle.hdc_top.specs.Report.{run_text, stop_text}
 use Rattle.hdc_top.specs.Words.{job_of, usage_text}
-use Rattle.hdc_top.specs.Due.{most_bytes, budget, too_long, status_of, IsDueFor, long, refused, ran, IsDue, usage, job, IsTold, IsDueFrom, IsFileText}
+use Rattle.hdc_top.specs.Due.{budget, too_long, status_of, stop_status, IsDueFor, long, stopped, ran, IsDue, usage, job, IsTold, IsDueFrom, IsFileText}
 
 -- a due status is none of the three that have no text
 pub record IsWritten (status : ℕ) : Type 0 where
@@ -28,9 +41,27 @@ status_written : (o : Outcome) → IsWritten (status_of o)
 status_written (outcome.Value v) = record { read = λ e. omega arith; written = λ e. omega arith; ample = λ e. omega arith }
 status_written (outcome.Trap t) = record { read = λ e. omega arith; written = λ e. omega arith; ample = λ e. omega arith }
 
+-- a stop of a text is no want of memory
+lexer_want : (s : LexStop) → lexer_stop s ≡ stop.Want → s ≡ lex.Want
+lexer_want (lex.Byte at) e = cc
+lexer_want (lex.Literal at) e = cc
+lexer_want (lex.Unclosed at) e = cc
+lexer_want (lex.Tokens at) e = cc
+lexer_want lex.Want e = refl
+
+never_want : (text : List ℕ) (s : Stop) → IsStopped text s → s ≢ stop.Want
+never_want text _ (lexemes s h told) = λ e. told (lexer_want s e)
+never_want text _ (layout tokens at h e) = λ e. cc
+never_want text _ (not_built laid h none) = λ e. cc
+
+stop_written : (s : Stop) → s ≢ stop.Want → IsWritten (stop_status s)
+stop_written (stop.Refused r) h = record { read = λ e. omega arith; written = λ e. omega arith; ample = λ e. omega arith }
+stop_written (stop.Limit l) h = record { read = λ e. omega arith; written = λ e. omega arith; ample = λ e. omega arith }
+stop_written stop.Want h = absurd (h refl)
+
 text_written : (text : List ℕ) (status : ℕ) (bytes : List ℕ) → IsDueFor text status bytes → IsWritten status
 text_written text _ _ (long h) = record { read = λ e. omega arith; written = λ e. omega arith; ample = λ e. omega arith }
-text_written text _ _ (refused h none) = record { read = λ e. omega arith; written = λ e. omega arith; ample = λ e. omega arith }
+text_written text _ _ (stopped s h why) = stop_written s (never_want text s why)
 text_written text _ _ (ran tree answer h program m) = status_written answer.outcome
 
 words_written : (words : List (List ℕ)) (text : List ℕ) (status : ℕ) (bytes : List ℕ) → IsDue words text status bytes → IsWritten status
@@ -41,7 +72,7 @@ pub due_written : (holds : List ℕ → Option (List ℕ)) (words : List (List �
 due_written holds words status bytes h = words_written words h.text status bytes h.due
 
 -- the report of a run of code that carries the meaning is due
-pub run_due : (text : List ℕ) (code : List Instr) (tree : Tree) (o : Outcome) (ticks : ℕ) → length text ≤ most_bytes → IsProgram text tree → CarriesMeaning code tree → EndsWith code o ticks → IsDueFor text (status_of o) (run_text o ticks)
+pub run_due : (text : List ℕ) (code : List Instr) (tree : Tree) (o : Outcome) (ticks : ℕ) → length text ≤ most_bytes → SpellsTree text tree → CarriesMeaning code tree → EndsWith code o ticks → IsDueFor text (status_of o) (run_text o ticks)
 run_due text code tree o ticks within program carries end =
     let same = (carries.each_budget budget).1 o ticks end in
     let due = ran tree (record { outcome = eval tree; unfoldings = 1 }) within program refl in
@@ -51,6 +82,11 @@ run_due text code tree o ticks within program carries end =
 pub answer_due : (text : List ℕ) (r : Result Due Want) (status : ℕ) (bytes : List ℕ) → IsDueFor text status bytes → IfOk r (λ d. d.status ≡ status) → IfOk r (λ d. d.text ≡ bytes) → IfOk r (λ d. IsDueFor text d.status d.text)
 answer_due text (Ok d) status bytes due e f = subst (λ s. IsDueFor text s d.text) (sym e) (subst (λ b. IsDueFor text status b) (sym f) due)
 answer_due text (Err w) status bytes due e f = tt
+
+-- an answer with a stop of the text
+pub stop_due : (text : List ℕ) (s : Stop) (r : Result Due Want) → length text ≤ most_bytes → (s ≢ stop.Want → IsStopped text s) → IfOk r (λ d. s ≢ stop.Want) → IfOk r (λ d. d.status ≡ stop_status s) → IfOk r (λ d. d.text ≡ stop_text s) → IfOk r (λ d. IsDueFor text d.status d.text)
+stop_due text s (Ok d) within why told e f = answer_due text (Ok d) (stop_status s) (stop_text s) (stopped s within (why told)) e f
+stop_due text s (Err w) within why told e f = tt
 
 -- the words name one file
 one_file : (words : List (List ℕ)) (file other : List ℕ) → job_of words ≡ Some file → job_of words ≡ Some other → file ≡ other
@@ -87,23 +123,82 @@ long_due holds words file status bytes e h f g =
 same_status : (o p : Outcome) → o ≡ p → status_of o ≡ status_of p
 same_status o p e = ap status_of e
 
-same_answer : (t u : Tree) (a b : Answer) → t ≡ u → meaning t budget ≡ Some a → meaning u budget ≡ Some b → a ≡ b
-same_answer t u a b e m n = some_inj (sym m ∙ ap (λ x. meaning x budget) e ∙ n)
+one_meaning : (t u : Tree) (a b : Answer) → t ≡ u → meaning t budget ≡ Some a → meaning u budget ≡ Some b → a ≡ b
+one_meaning t u a b e m n = some_inj (sym m ∙ ap (λ x. meaning x budget) e ∙ n)
   where
     some_inj : ◌≡◌ {A = Option Answer} (Some a) (Some b) → a ≡ b
     some_inj h = cc
 
+-- what comes of an answer of the lexer: the stop of it, or that of its tokens
+abbrev StopsLaid : Result (List Token) At → Stop → Type 0
+StopsLaid (Ok laid) s = (s ≡ not_yet) × SpellsNone laid
+StopsLaid (Err at) s = s ≡ refused_at kind.Brace at
+
+abbrev StopsAt : Result (List Token) LexStop → At → Stop → Type 0
+StopsAt (Ok tokens) end s = StopsLaid (laid_out tokens end) s
+StopsAt (Err told) end s = s ≡ lexer_stop told
+
+record Stopping (text : List ℕ) (s : Stop) : Type 0 where
+  pub answer : Result (List Token) LexStop
+  pub lexed : Lexes form.Program text answer
+  pub told : answer ≡ Err lex.Want → ⊥
+  pub stops : StopsAt answer (end_place text) s
+
+stopping : (text : List ℕ) (s : Stop) → IsStopped text s → Stopping text s
+stopping text _ (lexemes s h told) = record { answer = Err s; lexed = h; told = λ e. told (err_inj s lex.Want e); stops = refl }
+  where
+    err_inj : (s t : LexStop) → ◌≡◌ {A = Result (List Token) LexStop} (Err s) (Err t) → s ≡ t
+    err_inj s t e = cc
+stopping text _ (layout tokens at h e) = record { answer = Ok tokens; lexed = h; told = λ e. cc; stops = subst (λ r. StopsLaid r (refused_at kind.Brace at)) (sym e) refl }
+stopping text _ (not_built laid h none) = record { answer = Ok h.tokens; lexed = h.lexed; told = λ e. cc; stops = subst (λ r. StopsLaid r not_yet) (sym h.laid_out) (refl, none) }
+
+laid_once : (r : Result (List Token) At) (s t : Stop) → StopsLaid r s → StopsLaid r t → s ≡ t
+laid_once (Ok laid) s t h g = h.0 ∙ sym g.0
+laid_once (Err at) s t h g = h ∙ sym g
+
+stops_once : (a : Result (List Token) LexStop) (end : At) (s t : Stop) → StopsAt a end s → StopsAt a end t → s ≡ t
+stops_once (Ok tokens) end s t h g = laid_once (laid_out tokens end) s t h g
+stops_once (Err told) end s t h g = h ∙ sym g
+
+-- a text is stopped in one way
+stopped_once : (text : List ℕ) (s t : Stop) → IsStopped text s → IsStopped text t → s ≡ t
+stopped_once text s t h g =
+    let a = stopping text s h in
+    let b = stopping text t g in
+    let same = same_answer form.Program text a.answer b.answer a.lexed b.lexed a.told b.told in
+    stops_once b.answer (end_place text) s t (subst (λ r. StopsAt r (end_place text) s) same a.stops) b.stops
+
+-- the laid-out tokens of a text are one list
+layout_once : (text : List ℕ) (laid others : List Token) → HasLayout text laid → HasLayout text others → laid ≡ others
+layout_once text laid others h g =
+    let same = same_answer form.Program text (Ok h.tokens) (Ok g.tokens) h.lexed g.lexed (λ e. cc) (λ e. cc) in
+    let tokens : h.tokens ≡ g.tokens = cc in
+    let both : ◌≡◌ {A = Result (List Token) At} (Ok laid) (Ok others) = sym h.laid_out ∙ ap (λ ts. laid_out ts (end_place text)) tokens ∙ g.laid_out in
+    cc
+
+-- a text that is stopped spells no tree
+stopped_none : (text : List ℕ) (s : Stop) (tree : Tree) → IsStopped text s → SpellsTree text tree → ⊥
+stopped_none text s tree h p =
+    let a = stopping text s h in
+    let same = same_answer form.Program text a.answer (Ok p.layout.tokens) a.lexed p.layout.lexed a.told (λ e. cc) in
+    let stops : StopsLaid (laid_out p.layout.tokens (end_place text)) s = subst (λ r. StopsAt r (end_place text) s) same a.stops in
+    (subst (λ r. StopsLaid r s) p.layout.laid_out stops).1 tree p.program
+
+-- a text spells one tree
+spelled_once : (text : List ℕ) (first second : Tree) → SpellsTree text first → SpellsTree text second → first ≡ second
+spelled_once text first second h g = same_tree g.laid first second (subst (λ laid. IsProgram laid first) (layout_once text h.laid g.laid h.layout g.layout) h.program) g.program
+
 text_once : (text : List ℕ) (s : ℕ) (b : List ℕ) → IsDueFor text s b → (t : ℕ) (c : List ℕ) → IsDueFor text t c → (s ≡ t) × (b ≡ c)
 text_once text _ _ (long h) _ _ (long g) = (refl, refl)
-text_once text _ _ (long h) _ _ (refused g none) = absurd (omega arith)
+text_once text _ _ (long h) _ _ (stopped s g why) = absurd (omega arith)
 text_once text _ _ (long h) _ _ (ran tree a g program m) = absurd (omega arith)
-text_once text _ _ (refused h none) _ _ (long g) = absurd (omega arith)
-text_once text _ _ (refused h none) _ _ (refused g other) = (refl, refl)
-text_once text _ _ (refused h none) _ _ (ran tree a g program m) = absurd (none tree program)
+text_once text _ _ (stopped s h why) _ _ (long g) = absurd (omega arith)
+text_once text _ _ (stopped s h why) _ _ (stopped t g other) = let same = stopped_once text s t why other in (ap stop_status same, ap stop_text same)
+text_once text _ _ (stopped s h why) _ _ (ran tree a g program m) = absurd (stopped_none text s tree why program)
 text_once text _ _ (ran tree a h program m) _ _ (long g) = absurd (omega arith)
-text_once text _ _ (ran tree a h program m) _ _ (refused g none) = absurd (none tree program)
+text_once text _ _ (ran tree a h program m) _ _ (stopped s g why) = absurd (stopped_none text s tree why program)
 text_once text _ _ (ran tree a h program m) _ _ (ran other b g again n) =
-    let same = same_answer tree other a b (same_tree text tree other program again) m n in
+    let same = one_meaning tree other a b (spelled_once text tree other program again) m n in
     (ap (λ (x : Answer). status_of x.outcome) same, ap (λ (x : Answer). run_text x.outcome x.unfoldings) same)
 
 pub due_once : (words : List (List ℕ)) (text : List ℕ) (s : ℕ) (b : List ℕ) → IsDue words text s b → (t : ℕ) (c : List ℕ) → IsDue words text t c → (s ≡ t) × (b ≡ c)
@@ -128,29 +223,57 @@ ran_apart : (o : Outcome) → (status_of o ≢ 8) × (status_of o ≢ 2) × (sta
 ran_apart (outcome.Value v) = ((λ e. omega arith), (λ e. omega arith), (λ e. omega arith))
 ran_apart (outcome.Trap t) = ((λ e. omega arith), (λ e. omega arith), (λ e. omega arith))
 
-text_limit : (text : List ℕ) (status : ℕ) (bytes : List ℕ) → IsDueFor text status bytes → status ≡ 8 → most_bytes < length text
-text_limit text _ _ (long h) e = h
-text_limit text _ _ (refused h none) e = absurd (omega arith)
+-- the status of a stop
+refused_status : (s : Stop) → stop_status s ≡ 1 → (r : Refusal) × (s ≡ stop.Refused r)
+refused_status (stop.Refused r) e = (r, refl)
+refused_status (stop.Limit l) e = absurd (omega arith)
+refused_status stop.Want e = absurd (omega arith)
+
+lexer_limit : (text : List ℕ) (s : LexStop) → Lexes form.Program text (Err s) → stop_status (lexer_stop s) ≡ 8 → (at : At) × Lexes form.Program text (Err (lex.Tokens at))
+lexer_limit text (lex.Byte at) h e = absurd (omega arith)
+lexer_limit text (lex.Literal at) h e = absurd (omega arith)
+lexer_limit text (lex.Unclosed at) h e = absurd (omega arith)
+lexer_limit text (lex.Tokens at) h e = (at, h)
+lexer_limit text lex.Want h e = absurd (omega arith)
+
+stop_limit : (text : List ℕ) (s : Stop) → IsStopped text s → stop_status s ≡ 8 → (at : At) × Lexes form.Program text (Err (lex.Tokens at))
+stop_limit text _ (lexemes s h told) e = lexer_limit text s h e
+stop_limit text _ (layout tokens at h g) e = absurd (omega arith)
+stop_limit text _ (not_built laid h none) e = absurd (omega arith)
+
+text_limit : (text : List ℕ) (status : ℕ) (bytes : List ℕ) → IsDueFor text status bytes → status ≡ 8 → PassesLimit text
+text_limit text _ _ (long h) e = inl h
+text_limit text _ _ (stopped s h why) e = inr (stop_limit text s why e)
 text_limit text _ _ (ran tree a h program m) e = absurd ((ran_apart a.outcome).0 e)
 
-text_long : (text : List ℕ) (status : ℕ) (bytes : List ℕ) → IsDueFor text status bytes → most_bytes < length text → status ≡ 8
-text_long text _ _ (long h) l = refl
-text_long text _ _ (refused h none) l = absurd (omega arith)
-text_long text _ _ (ran tree a h program m) l = absurd (omega arith)
+too_many : (text : List ℕ) (at : At) → Lexes form.Program text (Err (lex.Tokens at)) → IsStopped text (lexer_stop (lex.Tokens at))
+too_many text at h = lexemes (lex.Tokens at) h (λ e. cc)
 
-text_refused : (text : List ℕ) (status : ℕ) (bytes : List ℕ) → IsDueFor text status bytes → status ≡ 1 → SpellsNone text
+text_long : (text : List ℕ) (status : ℕ) (bytes : List ℕ) → IsDueFor text status bytes → PassesLimit text → status ≡ 8
+text_long text _ _ (long h) l = refl
+text_long text _ _ (stopped s h why) (inl l) = absurd (omega arith)
+text_long text _ _ (stopped s h why) (inr (at, many)) = ap stop_status (stopped_once text s (lexer_stop (lex.Tokens at)) why (too_many text at many))
+text_long text _ _ (ran tree a h program m) (inl l) = absurd (omega arith)
+text_long text _ _ (ran tree a h program m) (inr (at, many)) = absurd (stopped_none text (lexer_stop (lex.Tokens at)) tree (too_many text at many) program)
+
+text_refused : (text : List ℕ) (status : ℕ) (bytes : List ℕ) → IsDueFor text status bytes → status ≡ 1 → IsRefused text
 text_refused text _ _ (long h) e = absurd (omega arith)
-text_refused text _ _ (refused h none) e = none
+text_refused text _ _ (stopped s h why) e = let found = refused_status s e in (found.0, subst (IsStopped text) found.1 why)
 text_refused text _ _ (ran tree a h program m) e = absurd ((ran_apart a.outcome).2 e)
 
-text_no_tree : (text : List ℕ) (status : ℕ) (bytes : List ℕ) → IsDueFor text status bytes → SpellsNone text → length text ≤ most_bytes → status ≡ 1
-text_no_tree text _ _ (long h) none l = absurd (omega arith)
-text_no_tree text _ _ (refused h other) none l = refl
-text_no_tree text _ _ (ran tree a h program m) none l = absurd (none tree program)
+text_no_program : (text : List ℕ) (status : ℕ) (bytes : List ℕ) → IsDueFor text status bytes → IsRefused text → length text ≤ most_bytes → status ≡ 1
+text_no_program text _ _ (long h) why l = absurd (omega arith)
+text_no_program text _ _ (stopped s h why) (r, other) l = ap stop_status (stopped_once text s (stop.Refused r) why other)
+text_no_program text _ _ (ran tree a h program m) (r, why) l = absurd (stopped_none text (stop.Refused r) tree why program)
+
+stop_usage : (s : Stop) → stop_status s ≢ 2
+stop_usage (stop.Refused r) = λ e. omega arith
+stop_usage (stop.Limit l) = λ e. omega arith
+stop_usage stop.Want = λ e. omega arith
 
 text_job : (text : List ℕ) (status : ℕ) (bytes : List ℕ) → IsDueFor text status bytes → status ≢ 2
 text_job text _ _ (long h) = λ e. omega arith
-text_job text _ _ (refused h none) = λ e. omega arith
+text_job text _ _ (stopped s h why) = stop_usage s
 text_job text _ _ (ran tree a h program m) = (ran_apart a.outcome).1
 
 words_usage : (words : List (List ℕ)) (text : List ℕ) (status : ℕ) (bytes : List ℕ) → IsDue words text status bytes → status ≡ 2 → job_of words ≡ None
@@ -160,14 +283,14 @@ words_usage words text status bytes (job file _ _ f due) e = absurd (text_job te
 pub due_usage : (holds : List ℕ → Option (List ℕ)) (words : List (List ℕ)) (status : ℕ) (bytes : List ℕ) → IsDueFrom holds words status bytes → status ≡ 2 → job_of words ≡ None
 due_usage holds words status bytes h e = words_usage words h.text status bytes h.due e
 
-pub due_limit : (holds : List ℕ → Option (List ℕ)) (words : List (List ℕ)) (status : ℕ) (bytes : List ℕ) → IsDueFrom holds words status bytes → status ≡ 8 → (text : List ℕ) → IsFileText holds words text → most_bytes < length text
+pub due_limit : (holds : List ℕ → Option (List ℕ)) (words : List (List ℕ)) (status : ℕ) (bytes : List ℕ) → IsDueFrom holds words status bytes → status ≡ 8 → (text : List ℕ) → IsFileText holds words text → PassesLimit text
 due_limit holds words status bytes h e text f = text_limit text status bytes (file_due holds words status bytes text h f) e
 
-pub due_long : (holds : List ℕ → Option (List ℕ)) (words : List (List ℕ)) (status : ℕ) (bytes : List ℕ) → IsDueFrom holds words status bytes → (text : List ℕ) → IsFileText holds words text → most_bytes < length text → status ≡ 8
+pub due_long : (holds : List ℕ → Option (List ℕ)) (words : List (List ℕ)) (status : ℕ) (bytes : List ℕ) → IsDueFrom holds words status bytes → (text : List ℕ) → IsFileText holds words text → PassesLimit text → status ≡ 8
 due_long holds words status bytes h text f l = text_long text status bytes (file_due holds words status bytes text h f) l
 
-pub due_refused : (holds : List ℕ → Option (List ℕ)) (words : List (List ℕ)) (status : ℕ) (bytes : List ℕ) → IsDueFrom holds words status bytes → status ≡ 1 → (text : List ℕ) → IsFileText holds words text → SpellsNone text
+pub due_refused : (holds : List ℕ → Option (List ℕ)) (words : List (List ℕ)) (status : ℕ) (bytes : List ℕ) → IsDueFrom holds words status bytes → status ≡ 1 → (text : List ℕ) → IsFileText holds words text → IsRefused text
 due_refused holds words status bytes h e text f = text_refused text status bytes (file_due holds words status bytes text h f) e
 
-pub due_no_tree : (holds : List ℕ → Option (List ℕ)) (words : List (List ℕ)) (status : ℕ) (bytes : List ℕ) → IsDueFrom holds words status bytes → (text : List ℕ) → IsFileText holds words text → SpellsNone text → length text ≤ most_bytes → status ≡ 1
-due_no_tree holds words status bytes h text f none l = text_no_tree text status bytes (file_due holds words status bytes text h f) none l
+pub due_no_program : (holds : List ℕ → Option (List ℕ)) (words : List (List ℕ)) (status : ℕ) (bytes : List ℕ) → IsDueFrom holds words status bytes → (text : List ℕ) → IsFileText holds words text → IsRefused text → length text ≤ most_bytes → status ≡ 1
+due_no_program holds words status bytes h text f why l = text_no_program text status bytes (file_due holds words status bytes text h f) why l

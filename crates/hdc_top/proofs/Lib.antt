@@ -1,5 +1,5 @@
-pub mod Scanning
-pub mod Numbers
 pub mod Carrying
 pub mod Running
 pub mod Dues
+pub mod Tokens
+pub mod Texts

@@ -1,6 +1,5 @@
 -- What is due for the words of a job and the text of its file.
 use Rattle.std.specs.Prelude.{◌≡◌, ℕ, ◌<◌, ◌≤◌, List, Option, Some, None, IfSome, length}
-use Rattle.hdc_base.specs.declared.refusal.Kind.TheVariants.{NotYet}
 use Rattle.hdc_base.specs.declared.refusal.Which.TheVariants.{Program}
 use Rattle.hdc_base.specs.declared.refusal.Limit.TheVariants.{Long}
 use Rattle.hdc_base.specs.declared.refusal.Stop.{Stop}
@@ -11,25 +10,24 @@ use Rattle.hdc_value.specs.declared.outcome.Outcome.{Outcome}
 use Rattle.hdc_value.specs.declared.outcome.Outcome.TheVariants as outcome
 use Rattle.hdc_value.specs.Answer.{Answer}
 use Rattle.hdc_tree.specs.Tree.{Tree}
-use Rattle.hdc_tree.specs.Program.{IsProgram, SpellsNone}
 use Rattle.hdc_tree.specs.Meaning.{meaning}
+use Rattle.hdc_top.specs.Stopped.{most_bytes, SpellsTree, IsStopped}
 use Rattle.hdc_top.specs.Report.{run_text, stop_text}
 use Rattle.hdc_top.specs.Words.{job_of, usage_text}
-
--- the most bytes of a file
-abbrev pub most_bytes : ℕ
-most_bytes = 1048576
 
 -- how many unfoldings a run may make
 abbrev pub budget : ℕ
 budget = 1000000
 
--- a text that is not of the form that is built, and a text that is too long
-abbrev pub not_yet : Stop
-not_yet = stop.Refused (record { kind = NotYet; rule = 0; at = record { line = 1; col = 1 } })
-
+-- a text that is too long
 abbrev pub too_long : Stop
 too_long = stop.Limit (Long Program)
+
+-- the status of a stop; for want of memory nothing is due
+abbrev pub stop_status : Stop → ℕ
+stop_status (stop.Refused r) = 1
+stop_status (stop.Limit l) = 8
+stop_status stop.Want = 7
 
 -- the status of a run that ended
 abbrev pub status_of : Outcome → ℕ
@@ -39,8 +37,8 @@ status_of (outcome.Trap t) = 3
 -- the status and the bytes that are due for a text
 pub data IsDueFor (text : List ℕ) : ℕ → List ℕ → Type 0 where
   long : most_bytes < length text → IsDueFor text 8 (stop_text too_long)
-  refused : length text ≤ most_bytes → SpellsNone text → IsDueFor text 1 (stop_text not_yet)
-  ran : (tree : Tree) (answer : Answer) → length text ≤ most_bytes → IsProgram text tree → meaning tree budget ≡ Some answer → IsDueFor text (status_of answer.outcome) (run_text answer.outcome answer.unfoldings)
+  stopped : (s : Stop) → length text ≤ most_bytes → IsStopped text s → IsDueFor text (stop_status s) (stop_text s)
+  ran : (tree : Tree) (answer : Answer) → length text ≤ most_bytes → SpellsTree text tree → meaning tree budget ≡ Some answer → IsDueFor text (status_of answer.outcome) (run_text answer.outcome answer.unfoldings)
 
 -- the same for words, where the text is that of their file
 pub data IsDue (words : List (List ℕ)) (text : List ℕ) : ℕ → List ℕ → Type 0 where

@@ -1,3 +1,4 @@
+pub mod Stopped
 pub mod Results
 pub mod Parsing
 pub mod Code

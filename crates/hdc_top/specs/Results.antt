@@ -2,21 +2,32 @@
 use Rattle.std.specs.Prelude.{◌≡◌, ℕ, List, Option, Some, None, Result, Ok, Err}
 use Rattle.std.specs.declared.alloc.Global.{Global}
 use Rattle.std.specs.Prelude.{Vec}
+use Rattle.hdc_base.specs.declared.place.At.{At}
+use Rattle.hdc_base.specs.declared.token.Token as text_token
+use Rattle.hdc_base.specs.declared.refusal.Kind.TheVariants as kind
+use Rattle.hdc_base.specs.declared.refusal.Stop.{Stop}
+use Rattle.hdc_base.specs.declared.refusal.Stop.TheVariants as text_stop
+use Rattle.hdc_layout.specs.LaidOut.{laid_out}
 use Rattle.hdc_tree.specs.declared.exp.Exp.{Exp}
 use Rattle.hdc_tree.specs.declared.token.Token.{Token}
 use Rattle.hdc_tree.specs.Tree.{Tree, tree_of}
-use Rattle.hdc_tree.specs.Lexemes.{Lexes}
+use Rattle.hdc_tree.specs.Lexemes.{braced}
 use Rattle.hdc_tree.specs.Program.{IsProgram, SpellsNone}
 use Rattle.hdc_code.specs.declared.instr.Instr.{Instr}
 use Rattle.hdc_top.specs.Code.{CarriesMeaning}
+use Rattle.hdc_top.specs.Stopped.{not_yet, refused_at, SpellsTree, IsStopped}
 use Rattle.hdc_top.specs.declared.reader.ReadStop.{ReadStop}
 use Rattle.hdc_top.specs.declared.reader.ReadStop.TheVariants as stop
 
--- the text has these tokens and no others, or it has none
-abbrev pub Scans : List ℕ → Result (Vec Token Global) ReadStop → Type 0
-Scans text (Ok tokens) = Lexes 1 text tokens.items × ((others : List Token) → Lexes 1 text others → others ≡ tokens.items)
-Scans text (Err stop.NotYet) = (tokens : List Token) → Lexes 1 text tokens → ⊥
-Scans text (Err stop.Want) = Unit {0}
+-- these tokens were found, or there are none
+abbrev pub Finds : Result (Vec Token Global) ReadStop → Option (List Token) → Type 0
+Finds (Ok tokens) found = found ≡ Some tokens.items
+Finds (Err stop.NotYet) found = found ≡ None
+Finds (Err stop.Want) found = Unit {0}
+
+-- the tokens stand between the braces of a text's tokens
+abbrev pub IsBetween : List text_token.Token → List text_token.Token → Type 0
+IsBetween lexemes inner = (open_at : At) × (close_at : At) × (lexemes ≡ braced open_at inner close_at)
 
 -- what was read is this tree, or there is none
 abbrev pub Reads : Result Exp ReadStop → Option Tree → Type 0
@@ -24,14 +35,34 @@ Reads (Ok e) read = read ≡ Some (tree_of e)
 Reads (Err stop.NotYet) read = read ≡ None
 Reads (Err stop.Want) read = Unit {0}
 
--- the text spells this tree, or it spells none
-abbrev pub ReadsText : List ℕ → Result Exp ReadStop → Type 0
-ReadsText text (Ok e) = IsProgram text (tree_of e)
-ReadsText text (Err stop.NotYet) = SpellsNone text
-ReadsText text (Err stop.Want) = Unit {0}
+-- the laid-out tokens spell this tree, or they spell none
+abbrev pub ReadsProgram : List text_token.Token → Result Exp ReadStop → Type 0
+ReadsProgram laid (Ok e) = IsProgram laid (tree_of e)
+ReadsProgram laid (Err stop.NotYet) = SpellsNone laid
+ReadsProgram laid (Err stop.Want) = Unit {0}
 
--- the code carries the meaning of the tree that the text spells, or it spells none
-abbrev pub Compiles : List ℕ → Result (List Instr) ReadStop → Type 0
-Compiles text (Ok code) = (tree : Tree) × IsProgram text tree × CarriesMeaning code tree
-Compiles text (Err stop.NotYet) = SpellsNone text
-Compiles text (Err stop.Want) = Unit {0}
+-- why tokens are no program: their layout is refused, or they are not of the form that is built
+pub data StopsTokens (tokens : List text_token.Token) (end : At) : Stop → Type 0 where
+  layout : (at : At) → laid_out tokens end ≡ Err at → StopsTokens tokens end (refused_at kind.Brace at)
+  not_built : (laid : List text_token.Token) → laid_out tokens end ≡ Ok laid → SpellsNone laid → StopsTokens tokens end not_yet
+
+-- the laid-out tokens of these spell this tree, or why they spell none
+abbrev pub ReadsTokens : List text_token.Token → At → Result Exp Stop → Type 0
+ReadsTokens tokens end (Ok e) = (laid : List text_token.Token) × (laid_out tokens end ≡ Ok laid) × IsProgram laid (tree_of e)
+ReadsTokens tokens end (Err text_stop.Want) = Unit {0}
+ReadsTokens tokens end (Err (text_stop.Refused r)) = StopsTokens tokens end (text_stop.Refused r)
+ReadsTokens tokens end (Err (text_stop.Limit l)) = StopsTokens tokens end (text_stop.Limit l)
+
+-- the text spells this tree, or why it spells none
+abbrev pub ReadsText : List ℕ → Result Exp Stop → Type 0
+ReadsText text (Ok e) = SpellsTree text (tree_of e)
+ReadsText text (Err text_stop.Want) = Unit {0}
+ReadsText text (Err (text_stop.Refused r)) = IsStopped text (text_stop.Refused r)
+ReadsText text (Err (text_stop.Limit l)) = IsStopped text (text_stop.Limit l)
+
+-- the code carries the meaning of the tree that the text spells, or why it spells none
+abbrev pub Compiles : List ℕ → Result (List Instr) Stop → Type 0
+Compiles text (Ok code) = (tree : Tree) × SpellsTree text tree × CarriesMeaning code tree
+Compiles text (Err text_stop.Want) = Unit {0}
+Compiles text (Err (text_stop.Refused r)) = IsStopped text (text_stop.Refused r)
+Compiles text (Err (text_stop.Limit l)) = IsStopped text (text_stop.Limit l)

@@ -2,20 +2,19 @@
 
 ghost use Rattle.std.specs.Prelude.{◌≡◌, ◌≢◌, ◌≤◌, ◌<◌, ℕ, List, None, map, length, string_bytes, IfOk};
 ghost use Rattle.hdc_base.specs.Counts.{Rose};
-ghost use Rattle.hdc_tree.specs.Program.{SpellsNone};
+ghost use Rattle.hdc_top.specs.Stopped.{most_bytes, IsRefused, PassesLimit};
 ghost use Rattle.hdc_top.specs.declared.job.Silence.TheVariants as silence;
 ghost use Rattle.hdc_top.specs.Report.{run_text, stop_text};
 ghost use Rattle.hdc_top.specs.Words.{usage_text, job_of};
-ghost use Rattle.hdc_top.specs.Due.{status_of, not_yet, too_long, IsDueFor, IsDueFrom, Delivers, DeliversPrefix, FileFails, IsFileText, most_bytes};
+ghost use Rattle.hdc_top.specs.Due.{status_of, stop_status, too_long, IsDueFor, IsDueFrom, Delivers, DeliversPrefix, FileFails, IsFileText};
 
 use crate::compiler::compile;
 use crate::machine::{Record, run};
-use crate::reader::ReadStop;
 use crate::report::{run_text, stop_text};
 use crate::status::{LIMIT, NOT_READ, NOT_WRITTEN, REFUSED, TRAP, USAGE, VALUE, WANT};
 use crate::text::put;
 use crate::words::{USAGE_LINE, job};
-use hdc_base::{At, Kind, Limit, Load, Put, Refusal, Sink, Stop, Store, Text, Want, Which};
+use hdc_base::{Limit, Load, Put, Sink, Stop, Store, Text, Want, Which};
 use hdc_value::Outcome;
 use std::alloc::Global;
 
@@ -68,14 +67,14 @@ pub fn serve<S: Store, K: Sink>(alloc: Global, words: &[String], store: &mut S, 
     ensures not_written { result ≡ NOT_WRITTEN → Rose (K.faults out.old) (K.faults out.new) }
     ensures complete { (FileFails (S.faults store.old) (S.faults store.new) (map string_bytes words.now) → ⊥) → (Rose (K.faults out.old) (K.faults out.new) → ⊥) → result ≢ WANT → Delivers (S.holds store.old) (map string_bytes words.now) result (K.taken out.old) (K.taken out.new) }
 
-    // 2 comes exactly where the words name no job, 8 where the file is too long, and 1 where its
-    // text spells no tree.
+    // 2 comes exactly where the words name no job, 8 where the file's text passes a limit, and 1
+    // where it is refused.
     ensures usage { result ≡ USAGE → job_of (map string_bytes words.now) ≡ None }
     ensures no_job { job_of (map string_bytes words.now) ≡ None → result ≢ NOT_WRITTEN → result ≢ WANT → result ≡ USAGE }
-    ensures limit { result ≡ LIMIT → (text : List ℕ) → IsFileText (S.holds store.old) (map string_bytes words.now) text → most_bytes < length text }
-    ensures long { (text : List ℕ) → IsFileText (S.holds store.old) (map string_bytes words.now) text → most_bytes < length text → result ≢ NOT_READ → result ≢ NOT_WRITTEN → result ≢ WANT → result ≡ LIMIT }
-    ensures refused { result ≡ REFUSED → (text : List ℕ) → IsFileText (S.holds store.old) (map string_bytes words.now) text → SpellsNone text }
-    ensures no_tree { (text : List ℕ) → IsFileText (S.holds store.old) (map string_bytes words.now) text → SpellsNone text → length text ≤ most_bytes → result ≢ NOT_READ → result ≢ NOT_WRITTEN → result ≢ WANT → result ≡ REFUSED }
+    ensures limit { result ≡ LIMIT → (text : List ℕ) → IsFileText (S.holds store.old) (map string_bytes words.now) text → PassesLimit text }
+    ensures long { (text : List ℕ) → IsFileText (S.holds store.old) (map string_bytes words.now) text → PassesLimit text → result ≢ NOT_READ → result ≢ NOT_WRITTEN → result ≢ WANT → result ≡ LIMIT }
+    ensures refused { result ≡ REFUSED → (text : List ℕ) → IsFileText (S.holds store.old) (map string_bytes words.now) text → IsRefused text }
+    ensures no_program { (text : List ℕ) → IsFileText (S.holds store.old) (map string_bytes words.now) text → IsRefused text → length text ≤ most_bytes → result ≢ NOT_READ → result ≢ NOT_WRITTEN → result ≢ WANT → result ≡ REFUSED }
 {
     match answer(alloc, words, store) {
         Ok(due) => match out.put(due.text.as_slice()) {
@@ -114,8 +113,7 @@ fn answer_text(alloc: Global, text: &[u8]) -> Result<Due, Want>
             let record = run(alloc, &code)?;
             ran(alloc, &record)
         }
-        Err(ReadStop::NotYet) => not_yet(alloc),
-        Err(ReadStop::Want) => Err(Want),
+        Err(stop) => stopped(alloc, stop),
     }
 }
 
@@ -134,19 +132,20 @@ fn ran(alloc: Global, record: &Record) -> Result<Due, Want>
     })
 }
 
-// The refusal of a text that is not of the form that is built.
-fn not_yet(alloc: Global) -> Result<Due, Want>
-    ensures status { IfOk result (λ d. d.status ≡ REFUSED) }
-    ensures text { IfOk result (λ d. d.text ≡ stop_text not_yet) }
+// The line of a refusal or a limit.
+fn stopped(alloc: Global, stop: Stop) -> Result<Due, Want>
+    ensures told { IfOk result (λ d. stop ≢ Stop.Want) }
+    ensures status { IfOk result (λ d. d.status ≡ stop_status stop) }
+    ensures text { IfOk result (λ d. d.text ≡ stop_text stop) }
 {
-    let refusal = Refusal {
-        kind: Kind::NotYet,
-        rule: 0,
-        at: At { line: 1, col: 1 },
+    let status = match stop {
+        Stop::Refused(_) => REFUSED,
+        Stop::Limit(_) => LIMIT,
+        Stop::Want => return Err(Want),
     };
     Ok(Due {
-        status: REFUSED,
-        text: stop_text(alloc, Stop::Refused(refusal))?,
+        status,
+        text: stop_text(alloc, stop)?,
     })
 }
 
@@ -155,10 +154,7 @@ fn too_long(alloc: Global) -> Result<Due, Want>
     ensures status { IfOk result (λ d. d.status ≡ LIMIT) }
     ensures text { IfOk result (λ d. d.text ≡ stop_text too_long) }
 {
-    Ok(Due {
-        status: LIMIT,
-        text: stop_text(alloc, Stop::Limit(Limit::Long(Which::Program)))?,
-    })
+    stopped(alloc, Stop::Limit(Limit::Long(Which::Program)))
 }
 
 // The usage line.

@@ -1,20 +1,21 @@
 //! The top call: words in, a report and a status out.
 //!
-//! `serve` reads the words, loads the file, reads its text as a tree, makes code of the tree, runs
-//! the code on the machine and writes the report by one put. Its contract says what is due for the
-//! words and the text, in terms of the tree's spelling and meaning alone (`specs/Due.antt`), and
-//! gives each other answer but want of memory its cause.
+//! `serve` reads the words, loads the file, divides its text into lexemes, lays these out, reads them
+//! as a tree, makes code of the tree, runs the code on the machine and writes the report by one put.
+//! Its contract says what is due for the words and the text, in terms of lexemes, layout, the tree's
+//! spelling and its meaning alone (`specs/Due.antt`), and gives each other answer but want of memory
+//! its cause.
 #![tactic(auto)]
 
 mod compiler;
 mod generator;
 mod job;
 mod laws;
+mod lexemes;
 mod machine;
 mod parser;
 mod reader;
 mod report;
-mod scanner;
 mod status;
 mod text;
 mod words;

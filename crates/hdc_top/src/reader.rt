@@ -2,10 +2,14 @@
 
 ghost use Rattle.std.specs.Prelude.{◌≡◌, ◌≤◌, ℕ, length};
 ghost use Rattle.hdc_top.specs.declared.reader.ReadStop.TheVariants as stop;
-ghost use Rattle.hdc_top.specs.Results.{ReadsText};
+ghost use Rattle.hdc_top.specs.Stopped.{layout_stop, lexer_stop, not_yet, refused_at};
+ghost use Rattle.hdc_top.specs.Results.{ReadsProgram, ReadsText, ReadsTokens};
 
+use crate::lexemes::{arithmetic, between_braces};
 use crate::parser::parse;
-use crate::scanner::scan;
+use hdc_base::{At, Kind, Limit, Refusal, Stop, Token, Tokens, Which};
+use hdc_layout::{LayoutStop, lay_out};
+use hdc_lex::{Form, LexStop, end_of, lex};
 use hdc_tree::Exp;
 use std::alloc::{AllocError, AllocFailed, Global};
 
@@ -34,13 +38,76 @@ impl<T: Drop> From<AllocFailed<T>> for ReadStop {
     }
 }
 
-/// The tree that a text spells. `NotYet` comes exactly where it spells none.
-pub fn read(alloc: Global, text: &[u8]) -> Result<Exp, ReadStop>
+/// The tree that a text spells, or why it spells none: a refusal of its lexemes or of its layout, the
+/// limit on lexemes, or that it is not of the form that is built.
+pub fn read(alloc: Global, text: &[u8]) -> Result<Exp, Stop>
     requires { length text.now ≤ 1048576 }
     ensures { ReadsText text.now result }
 {
-    match scan(alloc, text) {
+    match lex(alloc, text, Form::Program) {
+        Ok(tokens) => lay_out_and_read(alloc, tokens, end_of(text)),
+        Err(stop) => Err(lexer_stop(stop)),
+    }
+}
+
+// The tree of the tokens of a text.
+fn lay_out_and_read(alloc: Global, tokens: Tokens, end: At) -> Result<Exp, Stop>
+    ensures { ReadsTokens tokens end result }
+{
+    match lay_out(alloc, tokens, end) {
+        Ok(laid) => match program(alloc, laid.as_slice()) {
+            Ok(tree) => Ok(tree),
+            Err(ReadStop::NotYet) => Err(not_yet()),
+            Err(ReadStop::Want) => Err(Stop::Want),
+        },
+        Err(stop) => Err(layout_stop(stop)),
+    }
+}
+
+// The tree of laid-out tokens.
+fn program(alloc: Global, laid: &[Token]) -> Result<Exp, ReadStop>
+    ensures { ReadsProgram laid.now result }
+{
+    let Some(inner) = between_braces(laid) else {
+        return Err(ReadStop::NotYet);
+    };
+    match arithmetic(alloc, inner) {
         Ok(tokens) => parse(alloc, tokens.as_slice()),
         Err(stop) => Err(stop),
+    }
+}
+
+// A text that is not of the form that is built.
+fn not_yet() -> Stop
+    ensures { result ≡ not_yet }
+{
+    refused(Kind::NotYet, At { line: 1, col: 1 })
+}
+
+// A refusal by no rule of a number.
+fn refused(kind: Kind, at: At) -> Stop
+    ensures { result ≡ refused_at kind at }
+{
+    Stop::Refused(Refusal { kind, rule: 0, at })
+}
+
+fn lexer_stop(stop: LexStop) -> Stop
+    ensures { result ≡ lexer_stop stop }
+{
+    match stop {
+        LexStop::Byte(at) => refused(Kind::Byte, at),
+        LexStop::Literal(at) => refused(Kind::Literal, at),
+        LexStop::Unclosed(at) => refused(Kind::Unclosed, at),
+        LexStop::Tokens(at) => Stop::Limit(Limit::Tokens(Which::Program, at)),
+        LexStop::Want => Stop::Want,
+    }
+}
+
+fn layout_stop(stop: LayoutStop) -> Stop
+    ensures { result ≡ layout_stop stop }
+{
+    match stop {
+        LayoutStop::Brace(at) => refused(Kind::Brace, at),
+        LayoutStop::Want => Stop::Want,
     }
 }

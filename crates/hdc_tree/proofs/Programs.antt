@@ -96,7 +96,7 @@ inner_is a b xs =
     ap (λ n. take n (xs ++ last ∷ [])) size ∙ take-append_seam xs (last ∷ [])
 
 -- it is one list
-inner_same : (a b c d : At) (xs ys : List text_token.Token) → braced a xs b ≡ braced c ys d → xs ≡ ys
+pub inner_same : (a b c d : At) (xs ys : List text_token.Token) → braced a xs b ≡ braced c ys d → xs ≡ ys
 inner_same a b c d xs ys e = sym (inner_is a b xs) ∙ ap inner_of e ∙ inner_is c d ys
 
 -- no tokens spell two trees

@@ -1,4 +1,4 @@
-use Rattle.hdc_top.proofs.Dues.{due_written, due_usage, due_limit, due_long, due_refused, due_no_tree}
+use Rattle.hdc_top.proofs.Dues.{due_written, due_usage, due_limit, due_long, due_refused, due_no_program}
 use Rattle.hdc_top.proofs.job.serve.Goals as goal
 
 pub returns-in-Done-clause-not_read : goal.returns-in-Done-clause-not_read
@@ -25,5 +25,5 @@ returns-in-Done-clause-long g c = λ text file size _ _ _. due_long _ _ _ _ c.in
 pub returns-in-Done-clause-refused : goal.returns-in-Done-clause-refused
 returns-in-Done-clause-refused g c = due_refused _ _ _ _ c.in-Ok.ensures.due
 
-pub returns-in-Done-clause-no_tree : goal.returns-in-Done-clause-no_tree
-returns-in-Done-clause-no_tree g c = λ text file none size _ _ _. due_no_tree _ _ _ _ c.in-Ok.ensures.due text file none size
+pub returns-in-Done-clause-no_program : goal.returns-in-Done-clause-no_program
+returns-in-Done-clause-no_program g c = λ text file none size _ _ _. due_no_program _ _ _ _ c.in-Ok.ensures.due text file none size

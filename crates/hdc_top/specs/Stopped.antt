@@ -1,0 +1,77 @@
+-- A text as a program, and why it is none.
+use Rattle.std.specs.Prelude.{◌≡◌, ◌⊎◌, ℕ, ◌<◌, List, length, Result, Ok, Err}
+use Rattle.hdc_base.specs.declared.place.At.{At}
+use Rattle.hdc_base.specs.declared.token.Token.{Token}
+use Rattle.hdc_base.specs.declared.refusal.Kind.{Kind}
+use Rattle.hdc_base.specs.declared.refusal.Kind.TheVariants as kind
+use Rattle.hdc_base.specs.declared.refusal.Which.TheVariants as which
+use Rattle.hdc_base.specs.declared.refusal.Limit.TheVariants as limit
+use Rattle.hdc_base.specs.declared.refusal.Refusal.{Refusal}
+use Rattle.hdc_base.specs.declared.refusal.Stop.{Stop}
+use Rattle.hdc_base.specs.declared.refusal.Stop.TheVariants as stop
+use Rattle.hdc_lex.specs.declared.lexeme.Form.TheVariants as form
+use Rattle.hdc_lex.specs.declared.lexer.LexStop.{LexStop}
+use Rattle.hdc_lex.specs.declared.lexer.LexStop.TheVariants as lex
+use Rattle.hdc_lex.specs.Place.{first_place, behind_all}
+use Rattle.hdc_lex.specs.Lexing.{Lexes}
+use Rattle.hdc_layout.specs.declared.stop.LayoutStop.{LayoutStop}
+use Rattle.hdc_layout.specs.declared.stop.LayoutStop.TheVariants as laying
+use Rattle.hdc_layout.specs.LaidOut.{laid_out}
+use Rattle.hdc_tree.specs.Tree.{Tree}
+use Rattle.hdc_tree.specs.Program.{IsProgram, SpellsNone}
+
+-- the most bytes of a file
+abbrev pub most_bytes : ℕ
+most_bytes = 1048576
+
+-- a refusal by no rule of a number
+abbrev pub refused_at : Kind → At → Stop
+refused_at k at = stop.Refused (record { kind = k; rule = 0; at = at })
+
+-- a text that is not of the form that is built
+abbrev pub not_yet : Stop
+not_yet = refused_at kind.NotYet first_place
+
+-- what a stop of the lexer is for a program
+abbrev pub lexer_stop : LexStop → Stop
+lexer_stop (lex.Byte at) = refused_at kind.Byte at
+lexer_stop (lex.Literal at) = refused_at kind.Literal at
+lexer_stop (lex.Unclosed at) = refused_at kind.Unclosed at
+lexer_stop (lex.Tokens at) = stop.Limit (limit.Tokens which.Program at)
+lexer_stop lex.Want = stop.Want
+
+-- what a stop of the layout is for a program
+abbrev pub layout_stop : LayoutStop → Stop
+layout_stop (laying.Brace at) = refused_at kind.Brace at
+layout_stop laying.Want = stop.Want
+
+-- the place where a next byte would stand
+abbrev pub end_place : List ℕ → At
+end_place text = behind_all first_place text
+
+-- the laid-out tokens of a text
+pub record HasLayout (text : List ℕ) (laid : List Token) : Type 0 where
+  pub tokens : List Token
+  pub lexed : Lexes form.Program text (Ok tokens)
+  pub laid_out : laid_out tokens (end_place text) ≡ Ok laid
+
+-- the text spells the tree
+pub record SpellsTree (text : List ℕ) (tree : Tree) : Type 0 where
+  pub laid : List Token
+  pub layout : HasLayout text laid
+  pub program : IsProgram laid tree
+
+-- why a text is no program: its lexemes or its layout are refused, it has too many lexemes, or it is not of the form that
+-- is built
+pub data IsStopped (text : List ℕ) : Stop → Type 0 where
+  lexemes : (s : LexStop) → Lexes form.Program text (Err s) → (s ≡ lex.Want → ⊥) → IsStopped text (lexer_stop s)
+  layout : (tokens : List Token) (at : At) → Lexes form.Program text (Ok tokens) → laid_out tokens (end_place text) ≡ Err at → IsStopped text (refused_at kind.Brace at)
+  not_built : (laid : List Token) → HasLayout text laid → SpellsNone laid → IsStopped text not_yet
+
+-- a text is refused
+abbrev pub IsRefused : List ℕ → Type 0
+IsRefused text = (r : Refusal) × IsStopped text (stop.Refused r)
+
+-- a text passes a limit: it has too many bytes, or too many lexemes
+abbrev pub PassesLimit : List ℕ → Type 0
+PassesLimit text = (most_bytes < length text) ⊎ ((at : At) × Lexes form.Program text (Err (lex.Tokens at)))
