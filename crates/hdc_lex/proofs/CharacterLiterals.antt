@@ -4,10 +4,10 @@ use Rattle.std.proofs.lemmas.Bool.{false≢true}
 use Rattle.std.proofs.lemmas.List.{append_assoc, drop_at}
 use Rattle.hdc_base.specs.declared.token.Word.{Word}
 use Rattle.hdc_base.specs.declared.token.Word.TheVariants as word
-use Rattle.hdc_lex.specs.Characters.{Character, stop_at, character_at}
+use Rattle.hdc_lex.specs.Characters.{Character, character_at}
 use Rattle.hdc_lex.specs.Pieces.{further, Found, lexeme, begins_with, closed_character, character_literal}
 use Rattle.hdc_lex.specs.Grammar.{begins_with_member, IsCharacter, IsLexeme}
-use Rattle.hdc_lex.specs.Fronts.{BeginsLexeme}
+use Rattle.hdc_lex.specs.Fronts.{BeginsLexeme, stop_at}
 use Rattle.hdc_lex.specs.declared.lexeme.Fault.{Fault}
 use Rattle.hdc_lex.specs.declared.lexeme.Fault.TheVariants as fault
 use Rattle.hdc_lex.specs.declared.lexeme.Piece.{Piece}

@@ -1,6 +1,7 @@
 -- Characters by their codes.
 use Rattle.std.proofs.Common.{◌≡◌, ℕ, ◌-◌, ◌^◌, arith, min, Ok, Err, Some}
-use Rattle.hdc_lex.specs.Characters.{greatest_code, coded}
+use Rattle.hdc_lex.specs.Characters.{coded}
+use Rattle.hdc_lex.specs.Grammar.{greatest_code}
 use Rattle.hdc_lex.specs.declared.lexeme.Fault.TheVariants as fault
 use Rattle.hdc_lex.proofs.Numbers.{bounded}
 

@@ -8,8 +8,9 @@ use Rattle.std.proofs.lemmas.List.{append-nil, append_assoc, length-append, take
 use Rattle.std.proofs.lemmas.List.Folds.{list_all-append}
 use Rattle.hdc_lex.specs.Bytes.{is_digit, is_hexadecimal, is_octal}
 use Rattle.hdc_lex.specs.Numbers.{digit_value, number_after, number_of}
-use Rattle.hdc_lex.specs.Characters.{Character, greatest_code, stop_at, simple_escape, coded, code_escape, simple_character, escape_at}
-use Rattle.hdc_lex.specs.Grammar.{is_run, begins_with_member, IsEscape}
+use Rattle.hdc_lex.specs.Characters.{Character, coded, code_escape, simple_character, escape_at}
+use Rattle.hdc_lex.specs.Fronts.{stop_at}
+use Rattle.hdc_lex.specs.Grammar.{is_run, begins_with_member, IsEscape, greatest_code, simple_escape}
 use Rattle.hdc_lex.specs.declared.lexeme.Fault.TheVariants as fault
 use Rattle.hdc_lex.proofs.Numbers.{joined}
 use Rattle.hdc_lex.proofs.Runs.{run_of, prefix_of_run, begins_with_none, number_grows, Over, first_over}

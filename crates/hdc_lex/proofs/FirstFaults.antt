@@ -7,10 +7,9 @@ use Rattle.hdc_base.specs.declared.token.Key.{Key}
 use Rattle.hdc_base.specs.declared.token.Word.{Word}
 use Rattle.hdc_base.specs.declared.token.Word.TheVariants as word
 use Rattle.hdc_lex.specs.Bytes.{is_one_of, is_small, is_capital, is_symbol, is_digit, is_printable}
-use Rattle.hdc_lex.specs.Characters.{stop_at}
 use Rattle.hdc_lex.specs.Pieces.{further, Found, lexeme}
 use Rattle.hdc_lex.specs.Grammar.{is_run, IsSpecial, IsCharacter, AreCharacters, IsLexeme}
-use Rattle.hdc_lex.specs.Fronts.{BeginsLexeme, IsFirstFault}
+use Rattle.hdc_lex.specs.Fronts.{BeginsLexeme, IsFirstFault, stop_at}
 use Rattle.hdc_lex.specs.declared.lexeme.Fault.{Fault}
 use Rattle.hdc_lex.specs.declared.lexeme.Fault.TheVariants as fault
 use Rattle.hdc_lex.specs.declared.lexeme.Piece.{Piece}

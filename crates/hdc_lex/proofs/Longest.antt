@@ -13,8 +13,8 @@ use Rattle.hdc_base.specs.declared.token.Word.{Word}
 use Rattle.hdc_base.specs.declared.token.Word.TheVariants as word
 use Rattle.hdc_lex.specs.Bytes.{class_of, is_one_of, is_name_byte, is_symbol, is_digit, is_hexadecimal, is_octal}
 use Rattle.hdc_lex.specs.Words.{variable, symbol}
-use Rattle.hdc_lex.specs.Numbers.{number_of, has_radix, radix_digits, decimal_size}
-use Rattle.hdc_lex.specs.Pieces.{Found, name_size, symbol_size, character_literal, string_literal}
+use Rattle.hdc_lex.specs.Numbers.{number_of}
+use Rattle.hdc_lex.specs.Pieces.{Found, name_size, symbol_size, character_literal, string_literal, has_radix, radix_digits, decimal_size}
 use Rattle.hdc_lex.specs.Grammar.{IsLexeme, small, capital, symbols, decimal, hexadecimal, octal, character, string, special, is_run}
 use Rattle.hdc_lex.specs.Fronts.{IsLongest, HasNoLexeme}
 use Rattle.hdc_lex.specs.declared.class.Class.{Class}

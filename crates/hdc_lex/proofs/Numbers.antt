@@ -3,7 +3,8 @@ use Rattle.std.proofs.Common.{◌≡◌, ℕ, ◌+◌, ◌-◌, ◌*◌, ◌<◌
 use Rattle.std.specs.Prelude.{nat_le}
 use Rattle.std.proofs.lemmas.List.{take_more}
 use Rattle.std.proofs.lemmas.Bool.Decides.{nat_tests}
-use Rattle.hdc_lex.specs.Numbers.{digit_value, number_after, number_of, number_within}
+use Rattle.hdc_lex.specs.Numbers.{digit_value, number_after, number_of}
+use Rattle.hdc_lex.specs.Pieces.{number_within}
 use Rattle.hdc_lex.specs.declared.lexeme.Fault.TheVariants as fault
 
 -- digits behind digits

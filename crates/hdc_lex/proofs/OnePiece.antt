@@ -13,12 +13,11 @@ use Rattle.hdc_base.specs.declared.token.Word.{Word}
 use Rattle.hdc_base.specs.declared.token.Word.TheVariants as word
 use Rattle.hdc_lex.specs.Bytes.{class_of, is_white, is_one_of, is_symbol, is_digit, is_hexadecimal, is_octal}
 use Rattle.hdc_lex.specs.Words.{variable, symbol, key_under, reserved_words, reserved_operators}
-use Rattle.hdc_lex.specs.Numbers.{number_at, number_of, number_within, has_radix, has_fraction, radix_digits, decimal_size}
-use Rattle.hdc_lex.specs.Characters.{stop_at}
-use Rattle.hdc_lex.specs.Pieces.{Found, piece_at, piece_by, symbols_at, special_at, symbol_size, line_size, as_number, block_comment, character_literal, string_literal, comment_end}
+use Rattle.hdc_lex.specs.Numbers.{number_of, has_fraction}
+use Rattle.hdc_lex.specs.Pieces.{Found, piece_at, piece_by, symbols_at, special_at, symbol_size, line_size, as_number, block_comment, character_literal, string_literal, comment_end, number_at, number_within, has_radix, radix_digits, decimal_size}
 use Rattle.hdc_lex.specs.Grammar.{begins_with_both}
 use Rattle.hdc_lex.specs.Grammar.{IsLexeme, small, capital, symbols, decimal, hexadecimal, octal, character, string, special, begins_with_member, AreCharacters, plain, IsSpecial, open_paren, close_paren, comma, semicolon, open_bracket, close_bracket, open_brace, close_brace, backquote}
-use Rattle.hdc_lex.specs.Fronts.{EndsComment, is_dashes, begins_line_comment, begins_comment, IsLongest, is_above, is_malformed, IsPiece, white, line, comment, lexeme, BeginsLexeme, IsFirstFault, HasNoLexeme, IsFault, number, literal, byte}
+use Rattle.hdc_lex.specs.Fronts.{EndsComment, is_dashes, begins_line_comment, begins_comment, IsLongest, is_above, is_malformed, IsPiece, white, line, comment, lexeme, BeginsLexeme, IsFirstFault, HasNoLexeme, IsFault, number, literal, byte, stop_at}
 use Rattle.hdc_lex.specs.declared.class.Class.{Class}
 use Rattle.hdc_lex.specs.declared.class.Class.TheVariants as class
 use Rattle.hdc_lex.specs.declared.lexeme.Fault.{Fault}

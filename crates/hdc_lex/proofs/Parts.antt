@@ -2,7 +2,8 @@
 use Rattle.std.proofs.Common.{◌≡◌, ℕ, ◌<◌, List, [], ◌∷◌, ◌++◌, length, drop, refl, sym, ap, subst, ◌∙◌, arith, Bool, true, false, cond, not, ◌&&◌, ◌==◌, is_err, Option, Some, None, Ok, Err}
 use Rattle.std.proofs.lemmas.Bool.{false≢true, true≢false, eqb-true, eq-eqb}
 use Rattle.hdc_lex.specs.Bytes.{is_printable}
-use Rattle.hdc_lex.specs.Characters.{Character, stop_at, escape_at, character_at}
+use Rattle.hdc_lex.specs.Characters.{Character, escape_at, character_at}
+use Rattle.hdc_lex.specs.Fronts.{stop_at}
 use Rattle.hdc_lex.specs.Pieces.{begins_with}
 use Rattle.hdc_lex.specs.Grammar.{begins_with_member, is_plain, IsEscape}
 use Rattle.hdc_lex.specs.declared.lexeme.Fault.TheVariants as fault

@@ -4,10 +4,10 @@ use Rattle.std.proofs.lemmas.Bool.{false≢true}
 use Rattle.std.proofs.lemmas.List.{append-nil, append_assoc, length-append, drop_at}
 use Rattle.hdc_base.specs.declared.token.Word.{Word}
 use Rattle.hdc_base.specs.declared.token.Word.TheVariants as word
-use Rattle.hdc_lex.specs.Characters.{Character, stop_at, character_at}
+use Rattle.hdc_lex.specs.Characters.{Character, character_at}
 use Rattle.hdc_lex.specs.Pieces.{further, lexeme, begins_with, Codes, with_front, code_list, behind_character, string_codes, as_string, string_literal}
 use Rattle.hdc_lex.specs.Grammar.{begins_with_member, AreCharacters, IsLexeme}
-use Rattle.hdc_lex.specs.Fronts.{BeginsLexeme}
+use Rattle.hdc_lex.specs.Fronts.{BeginsLexeme, stop_at}
 use Rattle.hdc_lex.specs.declared.lexeme.Fault.{Fault}
 use Rattle.hdc_lex.specs.declared.lexeme.Piece.{Piece}
 use Rattle.hdc_lex.proofs.Strings.{at_character}

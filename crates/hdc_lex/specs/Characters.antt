@@ -1,31 +1,18 @@
--- Characters of literals.
+-- The character at the front of a text as a function, which the laws in proofs/ tie to the definitions.
 use Rattle.std.specs.Prelude.{ℕ, ◌+◌, List, [], ◌∷◌, take, ◌==◌, nat_le, if◌then◌else◌, Option, Some, None, Result, Ok, Err}
 use Rattle.std.specs.List.{prefix_len}
 use Rattle.hdc_lex.specs.Bytes.{is_digit, is_hexadecimal, is_octal, is_printable}
 use Rattle.hdc_lex.specs.Numbers.{number_of}
+use Rattle.hdc_lex.specs.Grammar.{greatest_code, simple_escape}
+use Rattle.hdc_lex.specs.Fronts.{stop_at}
 use Rattle.hdc_lex.specs.declared.lexeme.Fault.{Fault}
 use Rattle.hdc_lex.specs.declared.lexeme.Fault.TheVariants as fault
-
--- the greatest code of a character
-abbrev pub greatest_code : ℕ
-greatest_code = 1114111
 
 -- how far from the place that is asked for a fault is
 abbrev pub offset_of : Fault → ℕ
 offset_of (fault.Byte offset) = offset
 offset_of fault.Literal = 0
 offset_of fault.Unclosed = 0
-
--- what is wrong where a literal stops at the front of a text, so many bytes behind the place that is asked for: it is cut
--- off by the end of the text or the line, a byte may not stand in it, or it is malformed
-abbrev pub stop_at : ℕ → List ℕ → Fault
-stop_at offset [] = fault.Unclosed
-stop_at offset (b ∷ bs) = if b == 10 then fault.Unclosed else (if is_printable b then fault.Literal else fault.Byte offset)
-
--- the code of the byte behind a backslash
-abbrev pub simple_escape : ℕ → Option ℕ
-simple_escape b =
-    if b == 97 then Some 7 else (if b == 98 then Some 8 else (if b == 102 then Some 12 else (if b == 110 then Some 10 else (if b == 114 then Some 13 else (if b == 116 then Some 9 else (if b == 118 then Some 11 else (if b == 92 then Some 92 else (if b == 34 then Some 34 else (if b == 39 then Some 39 else None)))))))))
 
 -- one character, or none, with how many bytes it has
 abbrev pub Character : Type 0

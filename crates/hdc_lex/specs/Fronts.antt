@@ -1,13 +1,11 @@
 -- What stands at the front of a text: a white byte, a comment, the longest lexeme, or a fault.
-use Rattle.std.specs.Prelude.{◌≡◌, ℕ, ◌+◌, ◌≤◌, ◌<◌, List, [], ◌∷◌, ◌++◌, length, take, drop, Bool, true, false, not, ◌&&◌, ◌||◌, ◌==◌, nat_le}
+use Rattle.std.specs.Prelude.{◌≡◌, ℕ, ◌+◌, ◌≤◌, ◌<◌, List, [], ◌∷◌, ◌++◌, length, take, drop, Bool, true, false, not, ◌&&◌, ◌||◌, ◌==◌, nat_le, if◌then◌else◌}
 use Rattle.std.specs.List.{take_while, list_all}
 use Rattle.hdc_base.specs.declared.token.Word.{Word}
 use Rattle.hdc_base.specs.declared.token.Word.TheVariants as word
-use Rattle.hdc_lex.specs.Bytes.{is_white, is_digit, is_symbol, is_one_of}
+use Rattle.hdc_lex.specs.Bytes.{is_white, is_digit, is_symbol, is_one_of, is_printable}
 use Rattle.hdc_lex.specs.Numbers.{has_fraction}
-use Rattle.hdc_lex.specs.Characters.{stop_at}
-use Rattle.hdc_lex.specs.Grammar.{begins_with_both}
-use Rattle.hdc_lex.specs.Grammar.{begins_with_member, IsLexeme}
+use Rattle.hdc_lex.specs.Grammar.{begins_with_both, begins_with_member, IsLexeme}
 use Rattle.hdc_lex.specs.declared.lexeme.Fault.{Fault}
 use Rattle.hdc_lex.specs.declared.lexeme.Fault.TheVariants as fault
 use Rattle.hdc_lex.specs.declared.lexeme.Piece.{Piece}
@@ -31,7 +29,7 @@ begins_line_comment text = is_dashes (take_while is_symbol text)
 abbrev pub begins_comment : List ℕ → Bool
 begins_comment text = begins_line_comment text || begins_with_both 123 45 text
 
--- the longest lexeme at the front of a text
+-- the longest lexeme at the front of a text, with the number of its bytes
 pub record IsLongest (text : List ℕ) (size : ℕ) (w : Word) : Type 0 where
   pub within : size ≤ length text
   pub lexeme : IsLexeme (take size text) w
@@ -62,7 +60,14 @@ pub data IsPiece (greatest : ℕ) (text : List ℕ) : Piece → ℕ → Type 0 w
 abbrev pub BeginsLexeme : List ℕ → Type 0
 BeginsLexeme bytes = (more : List ℕ) × (w : Word) × IsLexeme (bytes ++ more) w
 
--- so many bytes of a text begin a lexeme, and with the next byte no lexeme does
+-- what is wrong where a literal goes wrong at the front of a rest, which begins so many bytes behind a place: it is cut off
+-- by the end of the text or the line, a byte may not stand in it, or it is malformed
+abbrev pub stop_at : ℕ → List ℕ → Fault
+stop_at offset [] = fault.Unclosed
+stop_at offset (b ∷ bs) = if b == 10 then fault.Unclosed else (if is_printable b then fault.Literal else fault.Byte offset)
+
+-- so many bytes of a text begin a lexeme, and with the next byte no lexeme does: the first fault from the left, where no
+-- lexeme is at the front
 pub record IsFirstFault (text : List ℕ) (n : ℕ) : Type 0 where
   pub within : n ≤ length text
   pub before : BeginsLexeme (take n text)
@@ -72,7 +77,7 @@ pub record IsFirstFault (text : List ℕ) (n : ℕ) : Type 0 where
 abbrev pub HasNoLexeme : List ℕ → Type 0
 HasNoLexeme text = (n : ℕ) (w : Word) → n ≤ length text → IsLexeme (take n text) w → ⊥
 
--- what is wrong at the front of a text, where no piece is there
+-- what is wrong at the front of a text; then no piece is there
 pub data IsFault (greatest : ℕ) (text : List ℕ) : Fault → Type 0 where
   number : (size : ℕ) (w : Word) → begins_comment text ≡ false → IsLongest text size w → is_malformed greatest (take size text) w (drop size text) ≡ true → IsFault greatest text fault.Literal
   comment : begins_with_both 123 45 text ≡ true → ((bytes rest : List ℕ) → text ≡ 123 ∷ 45 ∷ (bytes ++ rest) → EndsComment bytes → ⊥) → IsFault greatest text fault.Unclosed

@@ -1,5 +1,5 @@
 -- What is a lexeme: lists of bytes, each with its word.
-use Rattle.std.specs.Prelude.{◌≡◌, ℕ, ◌≤◌, List, [], ◌∷◌, ◌++◌, Bool, true, false, not, ◌&&◌, ◌==◌, Some}
+use Rattle.std.specs.Prelude.{◌≡◌, ℕ, ◌≤◌, List, [], ◌∷◌, ◌++◌, Bool, true, false, not, ◌&&◌, ◌==◌, if◌then◌else◌, Option, Some, None}
 use Rattle.std.specs.List.{list_all}
 use Rattle.hdc_base.specs.declared.token.Key.{Key}
 use Rattle.hdc_base.specs.declared.token.Key.TheVariants as key
@@ -8,7 +8,6 @@ use Rattle.hdc_base.specs.declared.token.Word.TheVariants as word
 use Rattle.hdc_lex.specs.Bytes.{is_one_of, is_small, is_capital, is_digit, is_symbol, is_name_byte, is_hexadecimal, is_octal, is_printable}
 use Rattle.hdc_lex.specs.Words.{variable, symbol}
 use Rattle.hdc_lex.specs.Numbers.{number_of}
-use Rattle.hdc_lex.specs.Characters.{greatest_code, simple_escape}
 
 -- one or more bytes of a class
 abbrev pub is_run : (ℕ → Bool) → List ℕ → Bool
@@ -38,6 +37,15 @@ pub data IsSpecial : ℕ → Key → Type 0 where
   close_brace : IsSpecial 125 key.KCloseBrace
   backquote : IsSpecial 96 key.KBackquote
 
+-- the greatest code of a character
+abbrev pub greatest_code : ℕ
+greatest_code = 1114111
+
+-- the code of the byte behind a backslash
+abbrev pub simple_escape : ℕ → Option ℕ
+simple_escape b =
+    if b == 97 then Some 7 else (if b == 98 then Some 8 else (if b == 102 then Some 12 else (if b == 110 then Some 10 else (if b == 114 then Some 13 else (if b == 116 then Some 9 else (if b == 118 then Some 11 else (if b == 92 then Some 92 else (if b == 34 then Some 34 else (if b == 39 then Some 39 else None)))))))))
+
 -- an escape behind its backslash, with its code, and with the class of the bytes that would make it longer
 pub data IsEscape : (ℕ → Bool) → List ℕ → ℕ → Type 0 where
   simple : (b code : ℕ) → simple_escape b ≡ Some code → IsEscape (λ digit. false) (b ∷ []) code
@@ -49,7 +57,7 @@ pub data IsEscape : (ℕ → Bool) → List ℕ → ℕ → Type 0 where
 abbrev pub is_plain : ℕ → ℕ → Bool
 is_plain quote b = is_printable b && not (b == quote) && not (b == 92)
 
--- what stands between the quotes of a character, with its code
+-- what stands between the quotes of a character, with its code; the closing quote makes no escape longer
 pub data IsCharacter : List ℕ → ℕ → Type 0 where
   plain : (b : ℕ) → is_plain 39 b ≡ true → IsCharacter (b ∷ []) b
   escaped : (is_more : ℕ → Bool) (escape : List ℕ) (code : ℕ) → IsEscape is_more escape code → IsCharacter (92 ∷ escape) code
@@ -62,7 +70,7 @@ pub data AreCharacters : List ℕ → List ℕ → Type 0 where
   escaped : (is_more : ℕ → Bool) (escape bytes : List ℕ) (code : ℕ) (codes : List ℕ) → IsEscape is_more escape code → begins_with_member is_more bytes ≡ false → AreCharacters bytes codes → AreCharacters (92 ∷ (escape ++ bytes)) (code ∷ codes)
   empty : (bytes codes : List ℕ) → AreCharacters bytes codes → AreCharacters (92 ∷ 38 ∷ bytes) codes
 
--- a lexeme with its word
+-- bytes that are a lexeme, with its word; what stands around them is judged apart
 pub data IsLexeme : List ℕ → Word → Type 0 where
   small : (b : ℕ) (bytes : List ℕ) → is_small b ≡ true → list_all is_name_byte bytes ≡ true → IsLexeme (b ∷ bytes) (variable (b ∷ bytes))
   capital : (b : ℕ) (bytes : List ℕ) → is_capital b ≡ true → list_all is_name_byte bytes ≡ true → IsLexeme (b ∷ bytes) (word.Con (b ∷ bytes))

@@ -53,7 +53,7 @@ stop_of at rest (fault.Byte offset) = stop.Byte (behind_all at (take offset rest
 stop_of at rest fault.Literal = stop.Literal at
 stop_of at rest fault.Unclosed = stop.Unclosed at
 
--- where so many lexemes begin the text, no piece begins the rest of it
+-- behind pieces with as many lexemes as a text may have, or fewer, no piece begins, and the stop tells what is wrong there
 pub record IsStop (form : Form) (text : List ℕ) (s : LexStop) : Type 0 where
   pub tokens : List Token
   pub minus : Bool

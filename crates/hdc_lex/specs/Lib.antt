@@ -2,8 +2,8 @@ pub mod Bytes
 pub mod Place
 pub mod Words
 pub mod Numbers
-pub mod Characters
-pub mod Pieces
 pub mod Grammar
 pub mod Fronts
 pub mod Lexing
+pub mod Characters
+pub mod Pieces

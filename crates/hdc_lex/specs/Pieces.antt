@@ -1,13 +1,14 @@
--- The piece at the front of a text: white, a comment or a lexeme.
-use Rattle.std.specs.Prelude.{ℕ, zero, suc, ◌+◌, ◌-◌, List, [], ◌∷◌, ◌++◌, length, take, drop, Bool, false, not, ◌&&◌, ◌==◌, nat_le, if◌then◌else◌, Option, Some, None, Result, Ok, Err}
-use Rattle.std.specs.List.{prefix_len, list_all}
+-- The piece at the front of a text as a function, which the laws in proofs/ tie to the definitions.
+use Rattle.std.specs.Prelude.{ℕ, zero, suc, ◌+◌, ◌-◌, List, [], ◌∷◌, ◌++◌, length, take, drop, Bool, false, not, ◌&&◌, ◌||◌, ◌==◌, nat_le, if◌then◌else◌, Option, Some, None, Result, Ok, Err}
+use Rattle.std.specs.List.{prefix_len, take_while, list_all}
 use Rattle.hdc_base.specs.declared.token.Key.{Key}
 use Rattle.hdc_base.specs.declared.token.Word.{Word}
 use Rattle.hdc_base.specs.declared.token.Word.TheVariants as word
-use Rattle.hdc_lex.specs.Bytes.{class_of, is_name_byte, is_symbol}
+use Rattle.hdc_lex.specs.Bytes.{class_of, is_name_byte, is_symbol, is_digit, is_hexadecimal, is_octal}
 use Rattle.hdc_lex.specs.Words.{variable, symbol}
-use Rattle.hdc_lex.specs.Numbers.{number_at}
-use Rattle.hdc_lex.specs.Characters.{Character, character_at, stop_at}
+use Rattle.hdc_lex.specs.Numbers.{number_of, has_fraction}
+use Rattle.hdc_lex.specs.Characters.{Character, character_at}
+use Rattle.hdc_lex.specs.Fronts.{stop_at}
 use Rattle.hdc_lex.specs.Grammar.{begins_with_both}
 use Rattle.hdc_lex.specs.declared.class.Class.{Class}
 use Rattle.hdc_lex.specs.declared.class.Class.TheVariants as class
@@ -15,6 +16,33 @@ use Rattle.hdc_lex.specs.declared.lexeme.Fault.{Fault}
 use Rattle.hdc_lex.specs.declared.lexeme.Fault.TheVariants as fault
 use Rattle.hdc_lex.specs.declared.lexeme.Piece.{Piece}
 use Rattle.hdc_lex.specs.declared.lexeme.Piece.TheVariants as piece
+
+-- the text begins with 0, one of the letters, and such a digit
+abbrev pub has_radix : ℕ → ℕ → (ℕ → Bool) → List ℕ → Bool
+has_radix small capital is_radix_digit (a ∷ b ∷ c ∷ rest) = (a == 48) && ((b == small) || (b == capital)) && is_radix_digit c
+has_radix small capital is_radix_digit (a ∷ b ∷ []) = false
+has_radix small capital is_radix_digit (a ∷ []) = false
+has_radix small capital is_radix_digit [] = false
+
+-- a number of this many bytes, where it is not too large
+abbrev pub number_within : ℕ → ℕ → ℕ → Result (ℕ × ℕ) Fault
+number_within greatest n size = if nat_le n greatest then Ok (n, size) else Err fault.Literal
+
+-- the digits of a radix behind two bytes
+abbrev pub radix_digits : (ℕ → Bool) → List ℕ → List ℕ
+radix_digits is_radix_digit text = take_while is_radix_digit (drop 2 text)
+
+-- how many bytes the decimal digits have at the front of a text that begins with one
+abbrev pub decimal_size : List ℕ → ℕ
+decimal_size text = 1 + prefix_len is_digit (drop 1 text)
+
+-- the number at the front of a text that begins with a digit, with how many bytes it has
+abbrev pub number_at : ℕ → List ℕ → Result (ℕ × ℕ) Fault
+number_at greatest text =
+    if has_radix 120 88 is_hexadecimal text then number_within greatest (number_of 16 (radix_digits is_hexadecimal text)) (2 + prefix_len is_hexadecimal (drop 2 text))
+    else (if has_radix 111 79 is_octal text then number_within greatest (number_of 8 (radix_digits is_octal text)) (2 + prefix_len is_octal (drop 2 text))
+    else (if has_fraction (drop (decimal_size text) text) then Err fault.Literal
+    else number_within greatest (number_of 10 (take (decimal_size text) text)) (decimal_size text)))
 
 -- a fault, told from a place so many bytes before
 abbrev pub further : ℕ → Fault → Fault

@@ -1,7 +1,9 @@
 //! Characters of literals.
 
 ghost use Rattle.std.specs.Prelude.{◌≡◌, ◌≤◌, ◌<◌, ◌+◌, length, IfOk, IfErr};
-ghost use Rattle.hdc_lex.specs.Characters.{character_at, code_escape, coded, escape_at, offset_of, simple_escape, stop_at};
+ghost use Rattle.hdc_lex.specs.Characters.{character_at, code_escape, coded, escape_at, offset_of};
+ghost use Rattle.hdc_lex.specs.Fronts.{stop_at};
+ghost use Rattle.hdc_lex.specs.Grammar.{simple_escape};
 
 use crate::class::{is_digit, is_printable};
 use crate::lexeme::Fault;

@@ -52,7 +52,8 @@ impl From<AllocError> for LexStop {
 }
 
 /// The lexemes of a text of at most 1,048,576 bytes, with the places of their first bytes. The stop
-/// is at the first place where no lexeme, comment or white byte begins, or at lexeme 131,073.
+/// comes of the first place where no lexeme, comment or white byte begins, or of lexeme 131,073. It
+/// has that place; `Byte` has the place of the byte.
 pub fn lex(alloc: Global, text: &[u8], form: Form) -> Result<Tokens, LexStop>
     requires { length text.now ≤ 1048576 }
     ensures { Lexes form text.now result }

@@ -4,7 +4,8 @@ ghost use Rattle.std.specs.Prelude.{◌≡◌, ◌≤◌, ◌<◌, ◌^◌, ◌-
 ghost use Rattle.hdc_lex.specs.Characters.{offset_of};
 ghost use Rattle.std.specs.List.{prefix_len};
 ghost use Rattle.hdc_lex.specs.Bytes.{is_digit, is_hexadecimal, is_octal};
-ghost use Rattle.hdc_lex.specs.Numbers.{digit_value, has_fraction, has_radix, number_at, number_of, number_within};
+ghost use Rattle.hdc_lex.specs.Numbers.{digit_value, has_fraction, number_of};
+ghost use Rattle.hdc_lex.specs.Pieces.{has_radix, number_at, number_within};
 
 use crate::class::{is_digit, is_hexadecimal, is_octal};
 use crate::lexeme::Fault;

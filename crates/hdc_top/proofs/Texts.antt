@@ -17,8 +17,7 @@ use Rattle.hdc_tree.specs.Tree.{Tree, tree_of}
 use Rattle.hdc_tree.specs.Program.{IsProgram, SpellsNone, program_tokens}
 use Rattle.hdc_tree.specs.Reading.{tokens_in, program_of}
 use Rattle.hdc_tree.proofs.Programs.{program_found, program_read, inner_same}
-use Rattle.hdc_code.specs.declared.instr.Instr.{Instr}
-use Rattle.hdc_top.specs.Stopped.{not_yet, layout_stop, lexer_stop, end_place, HasLayout, SpellsTree, IsStopped, lexemes, layout, not_built}
+use Rattle.hdc_top.specs.Stopped.{not_yet, layout_stop, lexer_stop, end_place, IsStopped, lexemes, layout, not_built}
 use Rattle.hdc_top.specs.Results as results
 use Rattle.hdc_top.specs.Results.{IsBetween, Finds, Reads, ReadsProgram, StopsTokens, ReadsTokens, ReadsText, Compiles}
 use Rattle.hdc_top.specs.declared.reader.ReadStop.{ReadStop}

@@ -9,9 +9,7 @@ ghost use Rattle.hdc_tree.specs.Reading.{key_word, operator_word, token_of, toke
 ghost use Rattle.hdc_top.specs.Results.{Finds, IsBetween};
 
 use crate::reader::ReadStop;
-use hdc_base::Key;
-use hdc_base::Token as Lexeme;
-use hdc_base::Word as LexemeWord;
+use hdc_base::{Key, Token as Lexeme, Word as LexemeWord};
 use hdc_tree::{Token, Word};
 use hdc_value::Op;
 use std::alloc::Global;

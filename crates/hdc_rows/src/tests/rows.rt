@@ -145,9 +145,21 @@ fn each_laid_out_program_gives_its_value(rt: HostRuntime) -> Result<(), Fail> {
 
 // A text and its first line.
 const PLACES: [(&str, u8, &str); 27] = [
-    ("main = 9223372036854775807\n + 1", 3, "trap overflow at 2:2\n"),
-    ("main =\t9223372036854775807 +\t1", 3, "trap overflow at 1:29\n"),
-    ("{ main = {- -}\n\t0 - 2\n*9223372036854775807 }", 3, "trap overflow at 3:1\n"),
+    (
+        "main = 9223372036854775807\n + 1",
+        3,
+        "trap overflow at 2:2\n",
+    ),
+    (
+        "main =\t9223372036854775807 +\t1",
+        3,
+        "trap overflow at 1:29\n",
+    ),
+    (
+        "{ main = {- -}\n\t0 - 2\n*9223372036854775807 }",
+        3,
+        "trap overflow at 3:1\n",
+    ),
     ("main = 1 }", 1, "refused brace at 1:10\n"),
     ("main = 1\n }", 1, "refused brace at 2:2\n"),
     ("{ main = 1 } }", 1, "refused brace at 1:14\n"),
@@ -163,7 +175,11 @@ const PLACES: [(&str, u8, &str); 27] = [
     ("main = 1e9", 1, "refused literal at 1:8\n"),
     ("main = 9223372036854775808", 1, "refused literal at 1:8\n"),
     ("main = 0x8000000000000000", 1, "refused literal at 1:8\n"),
-    ("main =\n - 9223372036854775808", 1, "refused literal at 2:4\n"),
+    (
+        "main =\n - 9223372036854775808",
+        1,
+        "refused literal at 2:4\n",
+    ),
     ("main = ''", 1, "refused literal at 1:8\n"),
     ("main = 'ab'", 1, "refused literal at 1:8\n"),
     ("main = \"\\q\"", 1, "refused literal at 1:8\n"),
@@ -179,7 +195,10 @@ fn each_fault_and_trap_has_its_place(rt: HostRuntime) -> Result<(), Fail> {
     for (text, status, line) in PLACES {
         let left = left(rt.alloc(), text.as_bytes())?;
         assert_eq!(rt; left.status, status, "of {text}");
-        assert!(rt; left.output.as_slice().starts_with(line.as_bytes()), "of {text}");
+        assert!(rt;
+            left.output.as_slice().starts_with(line.as_bytes()),
+            "of {text}"
+        );
     }
     Ok(())
 }
