@@ -16,8 +16,8 @@ use std::alloc::Global;
 pub fn lay_out(alloc: Global, tokens: Tokens, end: At) -> Result<Tokens, LayoutStop>
     ensures { IsAnswer (laid_out tokens end) result }
 {
+    let mut layout = Layout::new(alloc, tokens.len())?;
     let mut ahead = Ahead::of(alloc, tokens)?;
-    let mut layout = Layout::new(alloc);
     let mut before = Before::Beginning;
     while let Some(token) = ahead.next() {
         let mark = mark_before(before, &token);
