@@ -1,5 +1,5 @@
 -- Along what is closed.
-use Rattle.std.proofs.Common.{◌≡◌, ℕ, List, [], ◌∷◌, ◌++◌, drop, refl, sym, ap, ◌∙◌, Bool, true, false, not, ◌&&◌, ◌||◌, cond, Option, Some, None, Result, Ok, Err}
+use Rattle.std.proofs.Common.{◌≡◌, ℕ, List, [], ◌∷◌, ◌++◌, drop, refl, sym, ap, ◌∙◌, Bool, true, false, not, ◌&&◌, ◌||◌, cond, Some, None, Result, Ok, Err}
 use Rattle.std.proofs.lemmas.List.{append-nil, append_assoc}
 use Rattle.std.proofs.lemmas.Bool.{false≢true}
 use Rattle.hdc_base.specs.declared.place.At.{At}
@@ -47,11 +47,12 @@ lined l m p n at s e h q =
     ∙ after_both l s (insert key.KSemicolon at ∷ []) s.stack
     ∙ ap (λ t. after_step l (step (s.gives ++ cond t (insert key.KSemicolon at ∷ []) []) s.stack)) (sym h ∙ ap (λ m. is_at n (current m.stack)) e)
 
--- a found opener stands on top of what is left
+-- the second of two tests
 second : (a b : Bool) → (a && b) ≡ true → b ≡ true
 second true b h = h
 second false b h = absurd (false≢true h)
 
+-- where an opener is found, it stands on top of what is left
 pub then_in_place : (a : Answer) (at : At) (stack : List Entry) → finds a stack ≡ true → answered answer.Then (close_while (is_above a) at stack).stack ≡ entry.Opener opener.Then ∷ drop 1 (close_while (is_above a) at stack).stack
 then_in_place a at [] h = absurd (false≢true h)
 then_in_place a at (entry.Implicit n ∷ below) h = then_in_place a at below h
@@ -76,6 +77,7 @@ brace_closed at (entry.Implicit n ∷ below) h = absurd (false≢true h)
 brace_closed at (entry.Explicit ∷ below) h = refl
 brace_closed at (entry.Opener o ∷ below) h = ap (gives_before []) (brace_closed at below h)
 
+-- a } that ends its block
 pub brace_taken : (l m p : Layout) (r : Role) (at : At) → r ≡ role.CloseBrace → is_explicit (current l.stack) ≡ true → m ≡ after_step l (close_while is_above_block at l.stack) → p.laid ≡ m.laid → p.stack ≡ drop 1 m.stack → after_steps l (role_step r at l.stack) ≡ Ok p
 brace_taken l m p r at is h e same top =
     let em = e ∙ ap (after_step l) (brace_closed at l.stack h) in
@@ -84,15 +86,17 @@ brace_taken l m p r at is h e same top =
     ∙ ap (λ st. Ok (record { stack = st; laid = l.laid ++ [] })) (sym (top ∙ ap (λ m. drop 1 m.stack) em))
     ∙ ap (λ ts. Ok (record { stack = p.stack; laid = ts })) (sym (same ∙ ap (λ m. m.laid) em))
 
--- the end
+-- the answer at the end, by what is given and left
 abbrev ended : At → List Laid → List Entry → Answered
 ended end gives [] = Ok gives
 ended end gives (e ∷ below) = Err end
 
+-- an end with something given in front
 ended_before : (end : At) (front gives : List Laid) (stack : List Entry) → with_front front (ended end gives stack) ≡ ended end (front ++ gives) stack
 ended_before end front gives [] = refl
 ended_before end front gives (e ∷ below) = refl
 
+-- the end is a closing up to an explicit block
 finished : (end : At) (stack : List Entry) → finish stack end ≡ ended end (close_while is_above_block end stack).gives (close_while is_above_block end stack).stack
 finished end [] = refl
 finished end (entry.Implicit n ∷ below) =
@@ -101,20 +105,24 @@ finished end (entry.Implicit n ∷ below) =
 finished end (entry.Explicit ∷ below) = refl
 finished end (entry.Opener o ∷ below) = finished end below
 
+-- the end, where nothing is left
 at_none : (end : At) (laid : List Token) (gives : List Laid) (stack : List Entry) → top stack ≡ None → with_laid laid (ended end gives stack) ≡ Ok (laid ++ tokens_of gives)
 at_none end laid gives [] h = refl
 at_none end laid gives (e ∷ below) h = cc
 
+-- the end, where an explicit block is left
 at_some : (end : At) (laid : List Token) (gives : List Laid) (stack : List Entry) (e : Entry) → top stack ≡ Some e → with_laid laid (ended end gives stack) ≡ Err end
 at_some end laid gives [] e h = cc
 at_some end laid gives (f ∷ below) e h = refl
 
+-- a layout at the end, where nothing is left on its stack
 pub finish_none : (l m : Layout) (end : At) → m ≡ after_step l (close_while is_above_block end l.stack) → top m.stack ≡ None → with_laid l.laid (finish l.stack end) ≡ Ok m.laid
 finish_none l m end e h =
     ap (with_laid l.laid) (finished end l.stack)
     ∙ at_none end l.laid (close_while is_above_block end l.stack).gives (close_while is_above_block end l.stack).stack (ap (λ m. top m.stack) (sym e) ∙ h)
     ∙ ap (λ m. Ok m.laid) (sym e)
 
+-- a layout at the end, where something is left on its stack
 pub finish_some : (l m : Layout) (end : At) (on : Entry) → m ≡ after_step l (close_while is_above_block end l.stack) → top m.stack ≡ Some on → with_laid l.laid (finish l.stack end) ≡ Err end
 finish_some l m end on e h =
     ap (with_laid l.laid) (finished end l.stack)
@@ -127,6 +135,7 @@ token_given l m t (Ok s) laid h e =
     ap Ok (sym (after_both l s (given t ∷ []) s.stack) ∙ ap (λ m. record { stack = m.stack; laid = m.laid ++ t ∷ [] }) g ∙ ap (λ ts. record { stack = m.stack; laid = ts }) (sym e))
 token_given l m t (Err at) laid h e = cc
 
+-- a token that is stopped
 pub token_stopped : (l : Layout) (t : Token) (r : Result Step At) (at : At) → after_steps l r ≡ Err at → after_steps l (and_given t r) ≡ Err at
 token_stopped l t (Ok s) at h = cc
 token_stopped l t (Err place) at h = let g : place ≡ at = cc in ap Err g

@@ -15,9 +15,9 @@ use Rattle.hdc_layout.specs.declared.summary.Entry.{Entry}
 use Rattle.hdc_layout.specs.declared.summary.Entry.TheVariants as entry
 use Rattle.hdc_layout.specs.declared.summary.Block.{Block}
 use Rattle.hdc_layout.specs.Roles.{role_of}
-use Rattle.hdc_layout.specs.Marks.{Item, token, marked, mark_before, mark_at_end, behind, items_of, marked_list}
+use Rattle.hdc_layout.specs.Marks.{Item, token, mark_before, mark_at_end, behind, items_of, marked_list}
 use Rattle.hdc_layout.specs.Blocks.{current, column, is_explicit, finds}
-use Rattle.hdc_layout.specs.Rules.{Laid, given, inserted, insert, Step, step, closing, close_while, gives_before, gives_behind, ends, is_at, is_above, semicolon, line, begin_block, mark_step, answered, take_answer, role_step, below_block, and_given, Answered, with_front, behind_step, before_where, apply, finish}
+use Rattle.hdc_layout.specs.Rules.{Laid, given, inserted, insert, Step, step, closing, close_while, gives_before, ends, is_at, is_above, semicolon, line, begin_block, mark_step, answered, take_answer, role_step, below_block, and_given, Answered, with_front, behind_step, before_where, apply, finish}
 use Rattle.hdc_layout.specs.LaidOut.{laid_list, without_inserted, next_place, IsInsertion, ArePlaced, KeepsTokens, PlacesInserted}
 
 without-append : (xs ys : List Laid) → without_inserted (xs ++ ys) ≡ without_inserted xs ++ without_inserted ys

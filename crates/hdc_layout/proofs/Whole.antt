@@ -8,12 +8,17 @@ use Rattle.hdc_layout.specs.declared.mark.Mark.{Mark}
 use Rattle.hdc_layout.specs.declared.mark.Mark.TheVariants as mark
 use Rattle.hdc_layout.specs.declared.rules.Layout.{Layout}
 use Rattle.hdc_layout.specs.Roles.{role_of, is_where}
-use Rattle.hdc_layout.specs.Marks.{Item, token, marked, mark_before, mark_at_end, behind, items_of, marked_list}
+use Rattle.hdc_layout.specs.Marks.{Item, token, mark_before, mark_at_end, behind, items_of, marked_list}
 use Rattle.hdc_layout.specs.Rules.{Laid, Step, Answered, with_front, behind_step, mark_step, token_step, before_where, apply, finish}
 use Rattle.hdc_layout.specs.LaidOut.{tokens_of}
-use Rattle.hdc_layout.specs.Progress.{after_step, after_steps, with_laid, still}
+use Rattle.hdc_layout.specs.Progress.{after_step, after_steps, with_laid}
 use Rattle.hdc_layout.proofs.Closing.{tokens_of-append}
 
+-- what a layout under way still answers, with these items ahead
+abbrev pub still : Layout → List Item → At → Result (List Token) At
+still l items end = with_laid l.laid (apply items end l.stack)
+
+-- tokens in front of an answer are behind those so far
 with_laid_front : (laid : List Token) (front : List Laid) (r : Answered) → with_laid laid (with_front front r) ≡ with_laid (laid ++ tokens_of front) r
 with_laid_front laid front (Ok more) = ap Ok (ap (λ ts. laid ++ ts) (tokens_of-append front more) ∙ sym (append_assoc laid (tokens_of front) (tokens_of more)))
 with_laid_front laid front (Err at) = refl
@@ -37,6 +42,7 @@ still_taken l m (Ok s) items end h =
     with_laid_front l.laid s.gives (apply items end s.stack) ∙ ap (λ m. still m items end) g
 still_taken l m (Err at) items end h = cc
 
+-- stopped at a token
 still_stopped : (l : Layout) (r : Result Step At) (items : List Item) (end at : At) → after_steps l r ≡ Err at → with_laid l.laid (behind_step r (λ s. apply items end s)) ≡ Err at
 still_stopped l (Ok s) items end at h = cc
 still_stopped l (Err place) items end at h = let g : place ≡ at = cc in ap Err g
@@ -53,7 +59,7 @@ pub past_token : (answer : Result (List Token) At) (m p : Layout) (b : Before) (
 past_token answer m p b t rest end e h is =
     e ∙ still_taken m p (token_step t m.stack) (marked_list (behind t) rest end) end h ∙ ap (λ b. still p (marked_list b rest end) end) (sym is)
 
--- stopped at a token
+-- the answer, where it is stopped at a token
 pub at_token : (answer : Result (List Token) At) (m : Layout) (t : Token) (rest : List Token) (end at : At) → answer ≡ still m (token t ∷ marked_list (behind t) rest end) end → after_steps m (token_step t m.stack) ≡ Err at → answer ≡ Err at
 at_token answer m t rest end at e h = e ∙ still_stopped m (token_step t m.stack) (marked_list (behind t) rest end) end at h
 

@@ -1,6 +1,5 @@
 -- Blocks and openers on a stack, which is a list from its top.
 use Rattle.std.specs.Prelude.{ℕ, List, [], ◌∷◌, Bool, true, false, not, ◌&&◌, ◌||◌, Option, Some, None}
-use Rattle.hdc_layout.specs.declared.role.Opener.{Opener}
 use Rattle.hdc_layout.specs.declared.role.Answer.{Answer}
 use Rattle.hdc_layout.specs.declared.role.Answer.TheVariants as answer
 use Rattle.hdc_layout.specs.declared.summary.Entry.{Entry}

@@ -1,5 +1,5 @@
 -- A stack in memory: its entries from the lowest, each with the summary of the stack whose top it is.
-use Rattle.std.specs.Prelude.{◌≡◌, List, [], ◌∷◌, map, reverse}
+use Rattle.std.specs.Prelude.{◌≡◌, List, [], ◌∷◌, reverse}
 use Rattle.hdc_layout.specs.declared.summary.Entry.{Entry}
 use Rattle.hdc_layout.specs.declared.stack.Frame.{Frame}
 use Rattle.hdc_layout.specs.Blocks.{summary_of}

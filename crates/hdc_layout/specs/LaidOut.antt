@@ -1,5 +1,5 @@
 -- The laid-out tokens of a list of tokens.
-use Rattle.std.specs.Prelude.{◌≡◌, List, [], ◌∷◌, ◌++◌, ◌⊎◌, Result, Ok, Err}
+use Rattle.std.specs.Prelude.{◌≡◌, List, [], ◌∷◌, ◌⊎◌, Result, Ok, Err}
 use Rattle.hdc_base.specs.declared.place.At.{At}
 use Rattle.hdc_base.specs.declared.token.Key.TheVariants as key
 use Rattle.hdc_base.specs.declared.token.Word.{Word}
@@ -27,6 +27,7 @@ without_inserted [] = []
 without_inserted (given t ∷ laid) = t ∷ without_inserted laid
 without_inserted (inserted t ∷ laid) = without_inserted laid
 
+-- an answer that does not tell given tokens from inserted ones
 abbrev pub forget : Answered → Result (List Token) At
 forget (Ok laid) = Ok (tokens_of laid)
 forget (Err at) = Err at
@@ -35,15 +36,11 @@ forget (Err at) = Err at
 abbrev pub laid_out : List Token → At → Result (List Token) At
 laid_out tokens end = forget (laid_list tokens end)
 
--- an answer in a program; want of memory tells nothing
+-- a result has the laid-out tokens, or the place of the brace; want of memory tells nothing
 abbrev pub IsAnswer : Result (List Token) At → Result (List Token) LayoutStop → Type 0
 IsAnswer answer (Ok laid) = answer ≡ Ok laid
 IsAnswer answer (Err (stop.Brace at)) = answer ≡ Err at
 IsAnswer answer (Err stop.Want) = Unit {0}
-
--- the answer for tokens and their end; want of memory tells nothing
-abbrev pub LaysOut : List Token → At → Result (List Token) LayoutStop → Type 0
-LaysOut tokens end answer = IsAnswer (laid_out tokens end) answer
 
 -- the place of the next token of the text, or the end
 abbrev pub next_place : List Laid → At → At

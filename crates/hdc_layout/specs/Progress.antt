@@ -10,8 +10,7 @@ use Rattle.hdc_layout.specs.declared.rules.Cause.TheVariants as cause
 use Rattle.hdc_layout.specs.declared.stop.LayoutStop.{LayoutStop}
 use Rattle.hdc_layout.specs.declared.stop.LayoutStop.TheVariants as stop
 use Rattle.hdc_layout.specs.Blocks.{current}
-use Rattle.hdc_layout.specs.Marks.{Item}
-use Rattle.hdc_layout.specs.Rules.{Answered, Step, apply, ends, is_above}
+use Rattle.hdc_layout.specs.Rules.{Answered, Step, ends, is_above}
 use Rattle.hdc_layout.specs.LaidOut.{tokens_of}
 
 -- the top is no explicit block
@@ -21,7 +20,7 @@ is_above_block (entry.Implicit n ∷ below) = true
 is_above_block (entry.Explicit ∷ below) = false
 is_above_block (entry.Opener o ∷ below) = true
 
--- what closes removes the top of the stack
+-- the cause removes the top of the stack
 abbrev pub removes : Cause → List Entry → Bool
 removes (cause.Line n before_where) stack = ends n before_where (current stack)
 removes (cause.Answer a) stack = is_above a stack
@@ -31,11 +30,12 @@ removes cause.Brace stack = is_above_block stack
 abbrev pub after_step : Layout → Step → Layout
 after_step l s = record { stack = s.stack; laid = l.laid ++ tokens_of s.gives }
 
+-- a layout under way, behind a step that may be stopped by a brace
 abbrev pub after_steps : Layout → Result Step At → Result Layout At
 after_steps l (Ok s) = Ok (after_step l s)
 after_steps l (Err at) = Err at
 
--- a layout under way answers so; want of memory tells nothing
+-- a call leaves a layout so, or is stopped by the brace at the place; want of memory tells nothing
 abbrev pub Leaves : Result Layout At → Layout → Result Unit LayoutStop → Type 0
 Leaves answer l (Ok u) = answer ≡ Ok l
 Leaves answer l (Err (stop.Brace at)) = answer ≡ Err at
@@ -45,7 +45,3 @@ Leaves answer l (Err stop.Want) = Unit {0}
 abbrev pub with_laid : List Token → Answered → Result (List Token) At
 with_laid laid (Ok more) = Ok (laid ++ tokens_of more)
 with_laid laid (Err at) = Err at
-
--- what a layout under way still answers, with these items ahead
-abbrev pub still : Layout → List Item → At → Result (List Token) At
-still l items end = with_laid l.laid (apply items end l.stack)

@@ -7,7 +7,6 @@ use Rattle.hdc_base.specs.declared.token.Word.TheVariants as word
 use Rattle.hdc_base.specs.declared.token.Token.{Token}
 use Rattle.hdc_layout.specs.declared.role.Role.{Role}
 use Rattle.hdc_layout.specs.declared.role.Role.TheVariants as role
-use Rattle.hdc_layout.specs.declared.role.Opener.{Opener}
 use Rattle.hdc_layout.specs.declared.role.Opener.TheVariants as opener
 use Rattle.hdc_layout.specs.declared.role.Answer.{Answer}
 use Rattle.hdc_layout.specs.declared.role.Answer.TheVariants as answer
@@ -35,23 +34,25 @@ pub record Step : Type 0 where
   pub gives : List Laid
   pub stack : List Entry
 
+-- a step that gives these tokens and leaves this stack
 abbrev pub step : List Laid → List Entry → Step
 step gives stack = record { gives = gives; stack = stack }
 
--- something is given before, or behind
+-- a step with something given in front
 abbrev pub gives_before : List Laid → Step → Step
 gives_before front s = step (front ++ s.gives) s.stack
 
+-- a step with something given behind
 abbrev pub gives_behind : Step → List Laid → Step
 gives_behind s back = step (s.gives ++ back) s.stack
 
--- a removed implicit block gives a }
+-- what is given for a removed entry: a } for an implicit block
 abbrev pub closing : Entry → At → List Laid
 closing (entry.Implicit n) at = insert key.KCloseBrace at ∷ []
 closing entry.Explicit at = []
 closing (entry.Opener o) at = []
 
--- as long as a test holds of the stack, its top is removed
+-- as long as a test holds of the stack, its top is removed; each implicit block that is removed gives a }
 abbrev pub close_while : (List Entry → Bool) → At → List Entry → Step
 close_while test at [] = step [] []
 close_while test at (e ∷ below) = if test (e ∷ below) then gives_before (closing e at) (close_while test at below) else step [] (e ∷ below)
@@ -72,10 +73,11 @@ is_at n block.Nowhere = false
 abbrev pub semicolon : ℕ → At → Block → List Laid
 semicolon n at b = if is_at n b then insert key.KSemicolon at ∷ [] else []
 
--- a line first ends the current blocks that it ends, each with all above it
+-- a line, behind the blocks that it ends
 abbrev pub after_ends : ℕ → At → Step → Step
 after_ends n at s = gives_behind s (semicolon n at (current s.stack))
 
+-- a line ends the current block, with all above it, as long as it ends that, and then gives its ;
 abbrev pub line : ℕ → Bool → At → List Entry → Step
 line n before_where at stack = after_ends n at (close_while (λ s. ends n before_where (current s)) at stack)
 
@@ -85,6 +87,7 @@ begin_block n before_where at stack =
     if nat_lt (column (current stack)) n then step (insert key.KOpenBrace at ∷ []) (entry.Implicit n ∷ stack)
     else gives_before (insert key.KOpenBrace at ∷ insert key.KCloseBrace at ∷ []) (line n before_where at stack)
 
+-- what a mark gives, before `where` or not, and the stack that is left
 abbrev pub mark_step : Mark → Bool → At → List Entry → Step
 mark_step mark.Nothing before_where at stack = step [] stack
 mark_step (mark.Line n) before_where at stack = line n before_where at stack
@@ -136,6 +139,7 @@ abbrev pub and_given : Token → Result Step At → Result Step At
 and_given t (Ok s) = Ok (gives_behind s (given t ∷ []))
 and_given t (Err at) = Err at
 
+-- what a token gives, and the stack that is left, or the place of the brace
 abbrev pub token_step : Token → List Entry → Result Step At
 token_step t stack = and_given t (role_step (role_of t.word) t.at stack)
 
@@ -143,11 +147,12 @@ token_step t stack = and_given t (role_step (role_of t.word) t.at stack)
 abbrev pub Answered : Type 0
 Answered = Result (List Laid) At
 
+-- an answer with tokens in front
 abbrev pub with_front : List Laid → Answered → Answered
 with_front front (Ok laid) = Ok (front ++ laid)
 with_front front (Err at) = Err at
 
--- at the end each implicit block gives a }, and an explicit block is a brace's fault
+-- at the end a } is given for each implicit block, and an explicit block is a fault there
 abbrev pub finish : List Entry → At → Answered
 finish [] end = Ok []
 finish (entry.Implicit n ∷ below) end = with_front (insert key.KCloseBrace end ∷ []) (finish below end)
@@ -160,6 +165,7 @@ before_where [] = false
 before_where (token t ∷ items) = is_where (role_of t.word)
 before_where (marked m at ∷ items) = false
 
+-- the answer of what comes behind a step
 abbrev pub behind_step : Result Step At → (List Entry → Answered) → Answered
 behind_step (Ok s) rest = with_front s.gives (rest s.stack)
 behind_step (Err at) rest = Err at

@@ -27,7 +27,7 @@ impl Ahead {
         ensures { IfOk result (λ a. a ≡ tokens) }
     {
         let mut tokens = tokens;
-        let mut ahead = Vec::new(alloc);
+        let mut ahead = Vec::with_capacity(alloc, tokens.len())?;
         while let Some(token) = tokens.pop() {
             ahead.push(token)?;
         }

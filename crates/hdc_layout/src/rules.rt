@@ -1,6 +1,6 @@
 //! A layout under way, and what marks, tokens and the end do to it.
 
-ghost use Rattle.std.specs.Prelude.{◌≡◌, List, [], ◌∷◌, drop, OnOk};
+ghost use Rattle.std.specs.Prelude.{◌≡◌, List, [], ◌∷◌, drop, IfOk, OnOk};
 ghost use Rattle.hdc_layout.specs.Blocks.{top as top_of};
 ghost use Rattle.hdc_layout.specs.LaidOut.{IsAnswer};
 ghost use Rattle.hdc_layout.specs.declared.summary.Entry.{Entry};
@@ -34,14 +34,16 @@ pub enum Cause {
 }
 
 impl Layout {
-    /// A layout that has taken nothing yet.
-    pub fn new(alloc: Global) -> Layout
-        ensures { result ≡ record { stack = []; laid = [] } }
+    /// A layout that has taken nothing yet, with room for what so many tokens may give: each of them, a
+    /// `{`, a `}` and a `;`.
+    pub fn new(alloc: Global, count: usize) -> Result<Layout, AllocError>
+        ensures { IfOk result (λ l. l ≡ record { stack = []; laid = [] }) }
     {
-        Layout {
+        let laid = Vec::with_capacity(alloc, count.saturating_mul(4))?;
+        Ok(Layout {
             stack: Stack::new(alloc),
-            laid: Tokens::new(alloc),
-        }
+            laid: Tokens::from_vec(laid),
+        })
     }
 
     /// Takes a mark at a place, before `where` or not.

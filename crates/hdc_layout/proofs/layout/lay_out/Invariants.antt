@@ -1,7 +1,7 @@
 use Rattle.std.proofs.Common.{◌≡◌, length}
 use Rattle.hdc_layout.specs.Marks.{marked_list}
 use Rattle.hdc_layout.specs.LaidOut.{laid_out}
-use Rattle.hdc_layout.specs.Progress.{still}
+use Rattle.hdc_layout.proofs.Whole.{still}
 use Rattle.hdc_layout.proofs.layout.lay_out.Given as goal
 
 -- the answer is what the layout still answers, with the tokens ahead
