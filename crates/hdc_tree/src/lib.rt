@@ -1,8 +1,8 @@
 //! Trees of arithmetic, how they are spelled, and what they mean.
 //!
 //! `Exp` is a tree as a pass holds it. Definitions speak of `Tree`, the same tree without its boxes
-//! (`specs/Tree.antt`). A text spells a tree by its lexemes (`specs/Lexemes.antt`) and the tokens of
-//! the tree (`specs/Spelling.antt`); `one_tree` says that no text spells two. What a tree means is
+//! (`specs/Tree.antt`). The laid-out tokens of a text spell a tree where they are those of its spelling
+//! (`specs/Spelling.antt`, `specs/Lexemes.antt`); `one_tree` says that no tokens spell two. What a tree means is
 //! said with a budget of unfoldings (`specs/Meaning.antt`).
 #![tactic(auto)]
 
