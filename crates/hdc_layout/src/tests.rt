@@ -224,9 +224,13 @@ fn braces(rt: HostRuntime) -> Result<(), Fail> {
     Ok(())
 }
 
-const KEYWORDS: [(&str, &str); 19] = [
+const KEYWORDS: [(&str, &str); 20] = [
     // `in` ends the blocks above its `let`.
     ("let x in y", "{1:1 let {1:5 x }1:7 in y }1:11"),
+    (
+        "main = let x = 1 in x",
+        "{1:1 main = let {1:12 x = 1 }1:18 in x }1:22",
+    ),
     ("a = let x\n    in y", "{1:1 a = let {1:9 x }2:5 in y }2:9"),
     ("let x\nin y", "{1:1 let {1:5 x }2:1 ;2:1 in y }2:5"),
     (
