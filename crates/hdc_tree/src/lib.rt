@@ -7,9 +7,17 @@
 #![tactic(auto)]
 
 mod exp;
+mod expression;
 mod laws;
+mod name;
+mod pattern;
 mod token;
+mod type_tree;
 
 pub use exp::Exp;
 pub use laws::one_tree;
 pub use token::{Token, Word};
+pub use expression::{Aexp, Alt, Alts, Apply, CommaExp, CommaQual, CommaVar, Decl, Decls, Exp as Expression, Guard, Head, Link, Minus, NextAlt, NextDecl, Operand, Qual, Rhs, Where};
+pub use name::{Literal, Name, Op, Var, VarOp};
+pub use pattern::{Apat, CommaPat, ConsPat, LeftPat, Pat};
+pub use type_tree::{ArrowType, Atype, Btype, CommaType, Type};

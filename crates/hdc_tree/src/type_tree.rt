@@ -1,0 +1,57 @@
+//! Types as they are written.
+
+use crate::name::Name;
+use hdc_base::At;
+use sqlite_items::{Boxed, Items};
+
+/// Types with `->` between them.
+#[cycle(types)]
+#[derive(Debug, Drop)]
+pub struct Type {
+    pub first: Btype,
+    pub rest: Items<ArrowType>,
+}
+
+/// `->` and a type.
+#[cycle(types)]
+#[derive(Debug, Drop)]
+pub struct ArrowType {
+    pub arrow: At,
+    pub part: Btype,
+}
+
+/// A type that may stand beside a `->`.
+#[cycle(types)]
+#[derive(Debug, Drop)]
+pub enum Btype {
+    /// A type that may be an argument.
+    Plain(Atype),
+    /// A constructor and its arguments.
+    Applied(Name, Atype, Items<Atype>),
+}
+
+/// A type that may be an argument.
+#[cycle(types)]
+#[derive(Debug, Drop)]
+pub enum Atype {
+    /// A constructor.
+    Con(Name),
+    /// A variable.
+    Var(Name),
+    /// `(` `)`
+    Unit(At, At),
+    /// A type in parentheses.
+    Paren(At, Boxed<Type>, At),
+    /// Two to seven types in parentheses.
+    Tuple(At, Boxed<Type>, Items<CommaType>, At),
+    /// A type in brackets.
+    List(At, Boxed<Type>, At),
+}
+
+/// `,` and a type.
+#[cycle(types)]
+#[derive(Debug, Drop)]
+pub struct CommaType {
+    pub comma: At,
+    pub part: Type,
+}
