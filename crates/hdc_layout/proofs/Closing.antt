@@ -15,7 +15,7 @@ use Rattle.hdc_layout.specs.declared.summary.Entry.TheVariants as entry
 use Rattle.hdc_layout.specs.declared.rules.Layout.{Layout}
 use Rattle.hdc_layout.specs.Roles.{answers, is_bracket}
 use Rattle.hdc_layout.specs.Blocks.{top, current, finds, is_explicit}
-use Rattle.hdc_layout.specs.Rules.{Laid, given, inserted, insert, Step, step, Answered, closing, close_while, gives_before, is_at, is_above, after_ends, answered, take_answer, role_step, below_block, with_front, finish, and_given}
+use Rattle.hdc_layout.specs.Rules.{Laid, given, inserted, insert, Step, step, LaidResult, closing, close_while, gives_before, is_at, is_above, after_ends, answered, take_answer, role_step, below_block, with_front, finish, and_given}
 use Rattle.hdc_layout.specs.LaidOut.{tokens_of}
 use Rattle.hdc_layout.specs.Progress.{after_step, after_steps, is_above_block, with_laid}
 
@@ -87,7 +87,7 @@ brace_taken l m p r at is h e same top =
     ∙ ap (λ ts. Ok (record { stack = p.stack; laid = ts })) (sym (same ∙ ap (λ m. m.laid) em))
 
 -- the answer at the end, by what is given and left
-abbrev ended : At → List Laid → List Entry → Answered
+abbrev ended : At → List Laid → List Entry → LaidResult
 ended end gives [] = Ok gives
 ended end gives (e ∷ below) = Err end
 

@@ -17,7 +17,7 @@ use Rattle.hdc_layout.specs.declared.summary.Block.{Block}
 use Rattle.hdc_layout.specs.Roles.{role_of}
 use Rattle.hdc_layout.specs.Marks.{Item, token, mark_before, mark_at_end, behind, items_of, marked_list}
 use Rattle.hdc_layout.specs.Blocks.{current, column, is_explicit, finds}
-use Rattle.hdc_layout.specs.Rules.{Laid, given, inserted, insert, Step, step, closing, close_while, gives_before, ends, is_at, is_above, semicolon, line, begin_block, mark_step, answered, take_answer, role_step, below_block, and_given, Answered, with_front, behind_step, before_where, apply, finish}
+use Rattle.hdc_layout.specs.Rules.{Laid, given, inserted, insert, Step, step, closing, close_while, gives_before, ends, is_at, is_above, semicolon, line, begin_block, mark_step, answered, take_answer, role_step, below_block, and_given, LaidResult, with_front, behind_step, before_where, apply, finish}
 use Rattle.hdc_layout.specs.LaidOut.{laid_list, without_inserted, next_place, IsInsertion, ArePlaced, KeepsTokens, PlacesInserted}
 
 without-append : (xs ys : List Laid) → without_inserted (xs ++ ys) ≡ without_inserted xs ++ without_inserted ys
@@ -115,7 +115,7 @@ record Holds (ts : List Token) (first : At) (end : At) (laid : List Laid) : Type
   next : next_place laid end ≡ first
   placed : ArePlaced laid end
 
-abbrev Answers : List Token → At → At → Answered → Type 0
+abbrev Answers : List Token → At → At → LaidResult → Type 0
 Answers ts first end (Ok laid) = Holds ts first end laid
 Answers ts first end (Err at) = Unit {0}
 
@@ -131,7 +131,7 @@ placed_behind at end (inserted t ∷ front) laid hs next placed =
     (hs.0 ∙ sym (next_behind at end front laid hs.2 ∙ next), hs.1, placed_behind at end front laid hs.2 next placed)
 placed_behind at end (given t ∷ front) laid hs next placed = absurd hs
 
-front_inserted : (ts : List Token) (first end : At) (front : List Laid) (r : Answered) → AllInserted first front → Answers ts first end r → Answers ts first end (with_front front r)
+front_inserted : (ts : List Token) (first end : At) (front : List Laid) (r : LaidResult) → AllInserted first front → Answers ts first end r → Answers ts first end (with_front front r)
 front_inserted ts first end front (Ok laid) hs h = record {
   kept = without-append front laid ∙ ap (λ us. us ++ without_inserted laid) (none_given first front hs) ∙ h.kept;
   next = next_behind first end front laid hs ∙ h.next;
@@ -146,13 +146,13 @@ finish_answers (entry.Explicit ∷ below) end = tt
 finish_answers (entry.Opener o ∷ below) end = finish_answers below end
 
 -- a token behind what it closes, and before an answer
-given_behind : (t : Token) (ts : List Token) (first end : At) (gives : List Laid) (r : Answered) → AllInserted t.at gives → Answers ts first end r → Answers (t ∷ ts) t.at end (with_front (gives ++ given t ∷ []) r)
+given_behind : (t : Token) (ts : List Token) (first end : At) (gives : List Laid) (r : LaidResult) → AllInserted t.at gives → Answers ts first end r → Answers (t ∷ ts) t.at end (with_front (gives ++ given t ∷ []) r)
 given_behind t ts first end gives (Ok laid) hs h =
     let whole : Holds (t ∷ ts) t.at end (given t ∷ laid) = record { kept = ap (λ us. t ∷ us) h.kept; next = refl; placed = h.placed } in
     subst (Holds (t ∷ ts) t.at end) (sym (append_assoc gives (given t ∷ []) laid)) (front_inserted (t ∷ ts) t.at end gives (Ok (given t ∷ laid)) hs whole)
 given_behind t ts first end gives (Err at) hs h = tt
 
-step_answers : (t : Token) (ts : List Token) (first end : At) (r : Result Step At) (rest : List Entry → Answered) → StepInserted t.at r → ((stack : List Entry) → Answers ts first end (rest stack)) → Answers (t ∷ ts) t.at end (behind_step (and_given t r) rest)
+step_answers : (t : Token) (ts : List Token) (first end : At) (r : Result Step At) (rest : List Entry → LaidResult) → StepInserted t.at r → ((stack : List Entry) → Answers ts first end (rest stack)) → Answers (t ∷ ts) t.at end (behind_step (and_given t r) rest)
 step_answers t ts first end (Ok s) rest hs h = given_behind t ts first end s.gives (rest s.stack) hs (h s.stack)
 step_answers t ts first end (Err at) rest hs h = tt
 

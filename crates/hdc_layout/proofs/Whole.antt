@@ -9,7 +9,7 @@ use Rattle.hdc_layout.specs.declared.mark.Mark.TheVariants as mark
 use Rattle.hdc_layout.specs.declared.rules.Layout.{Layout}
 use Rattle.hdc_layout.specs.Roles.{role_of, is_where}
 use Rattle.hdc_layout.specs.Marks.{Item, token, mark_before, mark_at_end, behind, items_of, marked_list}
-use Rattle.hdc_layout.specs.Rules.{Laid, Step, Answered, with_front, behind_step, mark_step, token_step, before_where, apply, finish}
+use Rattle.hdc_layout.specs.Rules.{Laid, Step, LaidResult, with_front, behind_step, mark_step, token_step, before_where, apply, finish}
 use Rattle.hdc_layout.specs.LaidOut.{tokens_of}
 use Rattle.hdc_layout.specs.Progress.{after_step, after_steps, with_laid}
 use Rattle.hdc_layout.proofs.Closing.{tokens_of-append}
@@ -19,7 +19,7 @@ abbrev pub still : Layout → List Item → At → Result (List Token) At
 still l items end = with_laid l.laid (apply items end l.stack)
 
 -- tokens in front of an answer are behind those so far
-with_laid_front : (laid : List Token) (front : List Laid) (r : Answered) → with_laid laid (with_front front r) ≡ with_laid (laid ++ tokens_of front) r
+with_laid_front : (laid : List Token) (front : List Laid) (r : LaidResult) → with_laid laid (with_front front r) ≡ with_laid (laid ++ tokens_of front) r
 with_laid_front laid front (Ok more) = ap Ok (ap (λ ts. laid ++ ts) (tokens_of-append front more) ∙ sym (append_assoc laid (tokens_of front) (tokens_of more)))
 with_laid_front laid front (Err at) = refl
 

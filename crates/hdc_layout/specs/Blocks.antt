@@ -27,7 +27,7 @@ column block.Nowhere = 0
 column block.Explicit = 0
 column (block.Implicit n) = n
 
--- the current block is explicit
+-- the block is explicit
 abbrev pub is_explicit : Block → Bool
 is_explicit block.Explicit = true
 is_explicit block.Nowhere = false

@@ -9,10 +9,10 @@ use Rattle.hdc_layout.specs.declared.mark.Before.TheVariants as before
 use Rattle.hdc_layout.specs.declared.stop.LayoutStop.{LayoutStop}
 use Rattle.hdc_layout.specs.declared.stop.LayoutStop.TheVariants as stop
 use Rattle.hdc_layout.specs.Marks.{marked_list}
-use Rattle.hdc_layout.specs.Rules.{Laid, given, inserted, Answered, apply}
+use Rattle.hdc_layout.specs.Rules.{Laid, given, inserted, LaidResult, apply}
 
 -- the answer for the tokens of a text and its end, which tells given tokens from inserted ones
-abbrev pub laid_list : List Token → At → Answered
+abbrev pub laid_list : List Token → At → LaidResult
 laid_list tokens end = apply (marked_list before.Beginning tokens end) end []
 
 -- given and inserted tokens alike
@@ -28,7 +28,7 @@ without_inserted (given t ∷ laid) = t ∷ without_inserted laid
 without_inserted (inserted t ∷ laid) = without_inserted laid
 
 -- an answer that does not tell given tokens from inserted ones
-abbrev pub forget : Answered → Result (List Token) At
+abbrev pub forget : LaidResult → Result (List Token) At
 forget (Ok laid) = Ok (tokens_of laid)
 forget (Err at) = Err at
 
@@ -37,10 +37,10 @@ abbrev pub laid_out : List Token → At → Result (List Token) At
 laid_out tokens end = forget (laid_list tokens end)
 
 -- a result has the laid-out tokens, or the place of the brace; want of memory tells nothing
-abbrev pub IsAnswer : Result (List Token) At → Result (List Token) LayoutStop → Type 0
-IsAnswer answer (Ok laid) = answer ≡ Ok laid
-IsAnswer answer (Err (stop.Brace at)) = answer ≡ Err at
-IsAnswer answer (Err stop.Want) = Unit {0}
+abbrev pub IsLaidOut : Result (List Token) At → Result (List Token) LayoutStop → Type 0
+IsLaidOut answer (Ok laid) = answer ≡ Ok laid
+IsLaidOut answer (Err (stop.Brace at)) = answer ≡ Err at
+IsLaidOut answer (Err stop.Want) = Unit {0}
 
 -- the place of the next token of the text, or the end
 abbrev pub next_place : List Laid → At → At

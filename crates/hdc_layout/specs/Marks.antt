@@ -14,7 +14,7 @@ pub data Item : Type 0 where
   token : Token → Item
   marked : Mark → At → Item
 
--- behind a token stand its line and its role
+-- of the token before, only its line and its role count
 abbrev pub behind : Token → Before
 behind t = before.Token t.at.line (role_of t.word)
 

@@ -10,7 +10,7 @@ use Rattle.hdc_layout.specs.declared.rules.Cause.TheVariants as cause
 use Rattle.hdc_layout.specs.declared.stop.LayoutStop.{LayoutStop}
 use Rattle.hdc_layout.specs.declared.stop.LayoutStop.TheVariants as stop
 use Rattle.hdc_layout.specs.Blocks.{current}
-use Rattle.hdc_layout.specs.Rules.{Answered, Step, ends, is_above}
+use Rattle.hdc_layout.specs.Rules.{LaidResult, Step, ends, is_above}
 use Rattle.hdc_layout.specs.LaidOut.{tokens_of}
 
 -- the top is no explicit block
@@ -42,6 +42,6 @@ Leaves answer l (Err (stop.Brace at)) = answer ≡ Err at
 Leaves answer l (Err stop.Want) = Unit {0}
 
 -- the tokens so far, and then an answer
-abbrev pub with_laid : List Token → Answered → Result (List Token) At
+abbrev pub with_laid : List Token → LaidResult → Result (List Token) At
 with_laid laid (Ok more) = Ok (laid ++ tokens_of more)
 with_laid laid (Err at) = Err at

@@ -69,7 +69,7 @@ is_at n (block.Implicit m) = m == n
 is_at n block.Explicit = false
 is_at n block.Nowhere = false
 
--- a line at the column of the current block gives a ;
+-- a line at the column of a block that is current and implicit gives a ;
 abbrev pub semicolon : ℕ → At → Block → List Laid
 semicolon n at b = if is_at n b then insert key.KSemicolon at ∷ [] else []
 
@@ -77,7 +77,8 @@ semicolon n at b = if is_at n b then insert key.KSemicolon at ∷ [] else []
 abbrev pub after_ends : ℕ → At → Step → Step
 after_ends n at s = gives_behind s (semicolon n at (current s.stack))
 
--- a line ends the current block, with all above it, as long as it ends that, and then gives its ;
+-- a line ends the current block, with all above it, as long as it ends that; then it gives a ; where it is at the column
+-- of the block that is now current and implicit
 abbrev pub line : ℕ → Bool → At → List Entry → Step
 line n before_where at stack = after_ends n at (close_while (λ s. ends n before_where (current s)) at stack)
 
@@ -118,7 +119,8 @@ answered answer.CloseParen (e ∷ below) = below
 answered answer.CloseBracket (e ∷ below) = below
 answered answer.Comma (e ∷ below) = e ∷ below
 
--- an answer that finds its opener removes all above that; an answer that finds none changes nothing
+-- an answer that finds its opener removes all above that, and leaves what stands in the opener's place; an answer that
+-- finds none changes nothing
 abbrev pub take_answer : Answer → At → List Entry → Step
 take_answer a at stack =
     if finds a stack then (let s = close_while (is_above a) at stack in step s.gives (answered a s.stack))
@@ -143,17 +145,17 @@ and_given t (Err at) = Err at
 abbrev pub token_step : Token → List Entry → Result Step At
 token_step t stack = and_given t (role_step (role_of t.word) t.at stack)
 
--- tokens, or the place of a brace
-abbrev pub Answered : Type 0
-Answered = Result (List Laid) At
+-- laid-out tokens, or the place of a brace
+abbrev pub LaidResult : Type 0
+LaidResult = Result (List Laid) At
 
 -- an answer with tokens in front
-abbrev pub with_front : List Laid → Answered → Answered
+abbrev pub with_front : List Laid → LaidResult → LaidResult
 with_front front (Ok laid) = Ok (front ++ laid)
 with_front front (Err at) = Err at
 
 -- at the end a } is given for each implicit block, and an explicit block is a fault there
-abbrev pub finish : List Entry → At → Answered
+abbrev pub finish : List Entry → At → LaidResult
 finish [] end = Ok []
 finish (entry.Implicit n ∷ below) end = with_front (insert key.KCloseBrace end ∷ []) (finish below end)
 finish (entry.Explicit ∷ below) end = Err end
@@ -166,12 +168,12 @@ before_where (token t ∷ items) = is_where (role_of t.word)
 before_where (marked m at ∷ items) = false
 
 -- the answer of what comes behind a step
-abbrev pub behind_step : Result Step At → (List Entry → Answered) → Answered
+abbrev pub behind_step : Result Step At → (List Entry → LaidResult) → LaidResult
 behind_step (Ok s) rest = with_front s.gives (rest s.stack)
 behind_step (Err at) rest = Err at
 
 -- the rules, applied to a list of marks and tokens
-abbrev pub apply : List Item → At → List Entry → Answered
+abbrev pub apply : List Item → At → List Entry → LaidResult
 apply [] end stack = finish stack end
 apply (token t ∷ items) end stack = behind_step (token_step t stack) (λ s. apply items end s)
 apply (marked m at ∷ items) end stack = behind_step (Ok (mark_step m (before_where items) at stack)) (λ s. apply items end s)

@@ -1,6 +1,6 @@
 //! From tokens to laid-out tokens.
 
-ghost use Rattle.hdc_layout.specs.LaidOut.{laid_out, IsAnswer};
+ghost use Rattle.hdc_layout.specs.LaidOut.{laid_out, IsLaidOut};
 
 use crate::ahead::Ahead;
 use crate::mark::{Before, behind, mark_at_end, mark_before};
@@ -14,7 +14,7 @@ use std::alloc::Global;
 /// token before which they stand, or the end. `Brace` stands at the first `}` that ends no explicit
 /// block, or at the end where that stands in an explicit block.
 pub fn lay_out(alloc: Global, tokens: Tokens, end: At) -> Result<Tokens, LayoutStop>
-    ensures { IsAnswer (laid_out tokens end) result }
+    ensures { IsLaidOut (laid_out tokens end) result }
 {
     let mut layout = Layout::new(alloc, tokens.len())?;
     let mut ahead = Ahead::of(alloc, tokens)?;

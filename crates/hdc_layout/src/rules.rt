@@ -2,7 +2,7 @@
 
 ghost use Rattle.std.specs.Prelude.{◌≡◌, List, [], ◌∷◌, drop, IfOk, OnOk};
 ghost use Rattle.hdc_layout.specs.Blocks.{top as top_of};
-ghost use Rattle.hdc_layout.specs.LaidOut.{IsAnswer};
+ghost use Rattle.hdc_layout.specs.LaidOut.{IsLaidOut};
 ghost use Rattle.hdc_layout.specs.declared.summary.Entry.{Entry};
 ghost use Rattle.hdc_layout.specs.Progress.{after_step, after_steps, is_above_block, removes, with_laid, Leaves};
 ghost use Rattle.hdc_layout.specs.Rules.{begin_block, close_while, ends, finish, insert, is_above, is_at, line, mark_step, role_step, step, take_answer, token_step};
@@ -68,7 +68,7 @@ impl Layout {
 
     /// Takes the end of a text.
     pub fn finish(self, end: At) -> Result<Tokens, LayoutStop>
-        ensures { IsAnswer (with_laid self.laid (finish self.stack end)) result }
+        ensures { IsLaidOut (with_laid self.laid (finish self.stack end)) result }
     {
         let mut layout = self;
         layout.close(Cause::Brace, end)?;

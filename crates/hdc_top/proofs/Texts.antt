@@ -10,7 +10,7 @@ use Rattle.hdc_lex.specs.declared.lexer.LexStop.TheVariants as lex
 use Rattle.hdc_lex.specs.Lexing.{Lexes}
 use Rattle.hdc_layout.specs.declared.stop.LayoutStop.{LayoutStop}
 use Rattle.hdc_layout.specs.declared.stop.LayoutStop.TheVariants as laying
-use Rattle.hdc_layout.specs.LaidOut.{laid_out, IsAnswer}
+use Rattle.hdc_layout.specs.LaidOut.{laid_out, IsLaidOut}
 use Rattle.hdc_tree.specs.declared.exp.Exp.{Exp}
 use Rattle.hdc_tree.specs.declared.token.Token.{Token}
 use Rattle.hdc_tree.specs.Tree.{Tree, tree_of}
@@ -51,12 +51,12 @@ program_stops laid inner stop.Want between h = tt
 pub not_built_stops : (tokens laid : List text_token.Token) (end : At) (s : Stop) → laid_out tokens end ≡ Ok laid → SpellsNone laid → s ≡ not_yet → ReadsTokens tokens end (Err s)
 not_built_stops tokens laid end s e none same = subst (λ s. ReadsTokens tokens end (Err s)) (sym same) (results.not_built laid e none)
 
-laying_stops : (tokens : List text_token.Token) (end : At) (s : LayoutStop) → IsAnswer (laid_out tokens end) (Err s) → ReadsTokens tokens end (Err (layout_stop s))
+laying_stops : (tokens : List text_token.Token) (end : At) (s : LayoutStop) → IsLaidOut (laid_out tokens end) (Err s) → ReadsTokens tokens end (Err (layout_stop s))
 laying_stops tokens end (laying.Brace at) h = results.layout at h
 laying_stops tokens end laying.Want h = tt
 
 -- what the layout's stop is read as
-pub layout_stops : (tokens : List text_token.Token) (end : At) (s : LayoutStop) (t : Stop) → IsAnswer (laid_out tokens end) (Err s) → t ≡ layout_stop s → ReadsTokens tokens end (Err t)
+pub layout_stops : (tokens : List text_token.Token) (end : At) (s : LayoutStop) (t : Stop) → IsLaidOut (laid_out tokens end) (Err s) → t ≡ layout_stop s → ReadsTokens tokens end (Err t)
 layout_stops tokens end s t h same = subst (λ t. ReadsTokens tokens end (Err t)) (sym same) (laying_stops tokens end s h)
 
 -- what stops the tokens of a text stops the text

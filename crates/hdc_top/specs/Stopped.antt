@@ -61,14 +61,14 @@ pub record SpellsTree (text : List ℕ) (tree : Tree) : Type 0 where
   pub layout : HasLayout text laid
   pub program : IsProgram laid tree
 
--- why a text is no program: its lexemes or its layout are refused, it has too many lexemes, or it is not of the form that
--- is built
+-- why a text spells no tree, whatever its length: its lexemes or its layout are refused, it has too many lexemes, or it is
+-- not of the form that is built
 pub data IsStopped (text : List ℕ) : Stop → Type 0 where
   lexemes : (s : LexStop) → Lexes form.Program text (Err s) → (s ≡ lex.Want → ⊥) → IsStopped text (lexer_stop s)
-  layout : (tokens : List Token) (at : At) → Lexes form.Program text (Ok tokens) → laid_out tokens (end_place text) ≡ Err at → IsStopped text (refused_at kind.Brace at)
+  layout : (tokens : List Token) (at : At) → Lexes form.Program text (Ok tokens) → laid_out tokens (end_place text) ≡ Err at → IsStopped text (layout_stop (laying.Brace at))
   not_built : (laid : List Token) → HasLayout text laid → SpellsNone laid → IsStopped text not_yet
 
--- a text is refused
+-- the lexemes, the layout or the form of a text are refused
 abbrev pub IsRefused : List ℕ → Type 0
 IsRefused text = (r : Refusal) × IsStopped text (stop.Refused r)
 

@@ -68,11 +68,11 @@ pub fn serve<S: Store, K: Sink>(alloc: Global, words: &[String], store: &mut S, 
     ensures complete { (FileFails (S.faults store.old) (S.faults store.new) (map string_bytes words.now) → ⊥) → (Rose (K.faults out.old) (K.faults out.new) → ⊥) → result ≢ WANT → Delivers (S.holds store.old) (map string_bytes words.now) result (K.taken out.old) (K.taken out.new) }
 
     // 2 comes exactly where the words name no job, 8 where the file's text passes a limit, and 1
-    // where it is refused.
+    // where it is refused and not too long.
     ensures usage { result ≡ USAGE → job_of (map string_bytes words.now) ≡ None }
     ensures no_job { job_of (map string_bytes words.now) ≡ None → result ≢ NOT_WRITTEN → result ≢ WANT → result ≡ USAGE }
     ensures limit { result ≡ LIMIT → (text : List ℕ) → IsFileText (S.holds store.old) (map string_bytes words.now) text → PassesLimit text }
-    ensures long { (text : List ℕ) → IsFileText (S.holds store.old) (map string_bytes words.now) text → PassesLimit text → result ≢ NOT_READ → result ≢ NOT_WRITTEN → result ≢ WANT → result ≡ LIMIT }
+    ensures past_limit { (text : List ℕ) → IsFileText (S.holds store.old) (map string_bytes words.now) text → PassesLimit text → result ≢ NOT_READ → result ≢ NOT_WRITTEN → result ≢ WANT → result ≡ LIMIT }
     ensures refused { result ≡ REFUSED → (text : List ℕ) → IsFileText (S.holds store.old) (map string_bytes words.now) text → IsRefused text }
     ensures no_program { (text : List ℕ) → IsFileText (S.holds store.old) (map string_bytes words.now) text → IsRefused text → length text ≤ most_bytes → result ≢ NOT_READ → result ≢ NOT_WRITTEN → result ≢ WANT → result ≡ REFUSED }
 {

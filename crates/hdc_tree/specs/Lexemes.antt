@@ -1,4 +1,4 @@
--- How the tokens of arithmetic are spelled by those of a text.
+-- How the tokens of arithmetic are spelled by the laid-out tokens of a text.
 use Rattle.std.specs.Prelude.{◌≡◌, ℕ, ◌<◌, ◌^◌, ◌++◌, List, [], ◌∷◌, codes, pos}
 use Rattle.hdc_base.specs.declared.place.At.{At}
 use Rattle.hdc_base.specs.declared.token.Key.TheVariants as key
@@ -21,13 +21,13 @@ IsWord Open w = w ≡ text.Key key.KOpenParen
 IsWord Close w = w ≡ text.Key key.KCloseParen
 IsWord (Num value) w = (n : ℕ) × (value ≡ pos n) × (n < 2 ^ 63) × (w ≡ text.Num n)
 
--- the tokens of a text are those of arithmetic, one by one, at the same places
+-- laid-out tokens are those of arithmetic, one by one, at the same places
 abbrev pub AreTokens : List text_token.Token → List Token → Type 0
 AreTokens [] [] = Unit {0}
 AreTokens (lexeme ∷ lexemes) (token ∷ tokens) = (lexeme.at ≡ token.at) × IsWord token.word lexeme.word × AreTokens lexemes tokens
 AreTokens [] (token ∷ tokens) = ⊥
 AreTokens (lexeme ∷ lexemes) [] = ⊥
 
--- the tokens of a text in braces
+-- laid-out tokens in braces
 abbrev pub braced : At → List text_token.Token → At → List text_token.Token
 braced open_at inner close_at = record { at = open_at; word = text.Key key.KOpenBrace } ∷ (inner ++ record { at = close_at; word = text.Key key.KCloseBrace } ∷ [])

@@ -20,7 +20,7 @@ most_open = 200
 abbrev pub program_tokens : At → At → Tree → List Token
 program_tokens name sign tree = record { at = name; word = Main } ∷ record { at = sign; word = Equal } ∷ tokens_of tree
 
--- the tokens of a text are those of the program with this tree, in braces
+-- laid-out tokens are those of the program with this tree, in braces
 pub record IsProgram (lexemes : List text_token.Token) (tree : Tree) : Type 0 where
   pub open_at : At
   pub close_at : At
@@ -33,6 +33,6 @@ pub record IsProgram (lexemes : List text_token.Token) (tree : Tree) : Type 0 wh
   pub few : operator_count tree ≤ most_operators
   pub shallow : nesting tree ≤ most_open
 
--- the tokens spell no tree
+-- laid-out tokens spell no tree
 abbrev pub SpellsNone : List text_token.Token → Type 0
 SpellsNone lexemes = (tree : Tree) → IsProgram lexemes tree → ⊥

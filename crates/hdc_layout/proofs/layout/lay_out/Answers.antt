@@ -1,6 +1,6 @@
 use Rattle.std.proofs.Common.{sym, ap, subst, ◌∙◌}
 use Rattle.hdc_layout.specs.Roles.{is_where}
-use Rattle.hdc_layout.specs.LaidOut.{laid_out, IsAnswer}
+use Rattle.hdc_layout.specs.LaidOut.{laid_out, IsLaidOut}
 use Rattle.hdc_layout.proofs.Whole.{up_to_token, past_token, up_to_end}
 use Rattle.hdc_layout.proofs.layout.lay_out.Goals as goal
 
@@ -12,6 +12,6 @@ loop-token-preserved c =
 
 pub returns : goal.returns
 returns c =
-    subst (λ answer. IsAnswer answer c.finish.result)
+    subst (λ answer. IsLaidOut answer c.finish.result)
     (sym (up_to_end (laid_out c.args.tokens c.args.end) c.loop-token.layout c.mark-2.new.self c.loop-token.before c.mark_at_end.result c.loop-token.ahead c.args.end c.loop-token.invariant c.in_default.ensures.0 c.mark_at_end.ensures c.in_ok-mark-2.ensures))
     c.finish.ensures

@@ -19,8 +19,8 @@ returns-in-Done-clause-usage g c = due_usage _ _ _ _ c.in-Ok.ensures.due
 pub returns-in-Done-clause-limit : goal.returns-in-Done-clause-limit
 returns-in-Done-clause-limit g c = due_limit _ _ _ _ c.in-Ok.ensures.due
 
-pub returns-in-Done-clause-long : goal.returns-in-Done-clause-long
-returns-in-Done-clause-long g c = λ text file size _ _ _. due_long _ _ _ _ c.in-Ok.ensures.due text file size
+pub returns-in-Done-clause-past_limit : goal.returns-in-Done-clause-past_limit
+returns-in-Done-clause-past_limit g c = λ text file size _ _ _. due_long _ _ _ _ c.in-Ok.ensures.due text file size
 
 pub returns-in-Done-clause-refused : goal.returns-in-Done-clause-refused
 returns-in-Done-clause-refused g c = due_refused _ _ _ _ c.in-Ok.ensures.due
