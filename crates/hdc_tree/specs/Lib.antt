@@ -1,6 +1,11 @@
 pub mod Tree
 pub mod Lexemes
 pub mod Spelling
+pub mod NameSpelling
+pub mod PatternSpelling
+pub mod TypeSpelling
+pub mod HeadSpelling
+pub mod ExpressionSpelling
 pub mod Program
 pub mod Meaning
 pub mod Reading

@@ -1,39 +1,33 @@
 //! Expressions and declarations as they are written.
 
-use crate::name::{Literal, Name, Op, Var, VarOp};
+use crate::head::Head;
+use crate::name::{CommaVar, Literal, Name, Op, Sign, Var};
 use crate::pattern::{Apat, Pat};
-use crate::type_tree::Type;
+use crate::type_tree::TypeExp;
 use hdc_base::At;
 use sqlite_items::{Boxed, Items};
 
-/// A `-` before an operand, with its place.
-#[derive(Clone, Copy, Debug, PartialEq, Eq)]
-pub enum Minus {
-    Absent,
-    At(At),
-}
-
 /// Operands that an operator follows, and the last one.
 #[cycle(expressions)]
-#[derive(Debug, Drop)]
+#[derive(Drop)]
 pub struct Exp {
     pub links: Items<Link>,
-    pub minus: Minus,
+    pub sign: Sign,
     pub last: Operand,
 }
 
 /// An operand and the operator behind it.
 #[cycle(expressions)]
-#[derive(Debug, Drop)]
+#[derive(Drop)]
 pub struct Link {
-    pub minus: Minus,
+    pub sign: Sign,
     pub left: Apply,
     pub op: Op,
 }
 
 /// A function and its arguments, or one expression alone.
 #[cycle(expressions)]
-#[derive(Debug, Drop)]
+#[derive(Drop)]
 pub struct Apply {
     pub head: Aexp,
     pub args: Items<Aexp>,
@@ -41,7 +35,7 @@ pub struct Apply {
 
 /// The last operand of a chain.
 #[cycle(expressions)]
-#[derive(Debug, Drop)]
+#[derive(Drop)]
 pub enum Operand {
     /// An operand that may stand elsewhere too.
     Applied(Apply),
@@ -57,7 +51,7 @@ pub enum Operand {
 
 /// An expression that may be an argument.
 #[cycle(expressions)]
-#[derive(Debug, Drop)]
+#[derive(Drop)]
 pub enum Aexp {
     /// A variable.
     Var(Var),
@@ -89,7 +83,7 @@ pub enum Aexp {
 
 /// `,` and an expression.
 #[cycle(expressions)]
-#[derive(Debug, Drop)]
+#[derive(Drop)]
 pub struct CommaExp {
     pub comma: At,
     pub exp: Exp,
@@ -97,19 +91,19 @@ pub struct CommaExp {
 
 /// A part of a comprehension behind its `|`.
 #[cycle(expressions)]
-#[derive(Debug, Drop)]
+#[derive(Drop)]
 pub enum Qual {
     /// A pattern, `<-` and an expression.
     Generator(Pat, At, Boxed<Exp>),
     /// An expression.
     Condition(Boxed<Exp>),
     /// `let` and declarations.
-    Let(At, Decls),
+    Local(At, Decls),
 }
 
 /// `,` and a part of a comprehension.
 #[cycle(expressions)]
-#[derive(Debug, Drop)]
+#[derive(Drop)]
 pub struct CommaQual {
     pub comma: At,
     pub qual: Qual,
@@ -117,7 +111,7 @@ pub struct CommaQual {
 
 /// Alternatives in braces, with `;` between them.
 #[cycle(expressions)]
-#[derive(Debug, Drop)]
+#[derive(Drop)]
 pub struct Alts {
     pub open_at: At,
     pub first: Boxed<Alt>,
@@ -127,7 +121,7 @@ pub struct Alts {
 
 /// `;` and an alternative.
 #[cycle(expressions)]
-#[derive(Debug, Drop)]
+#[derive(Drop)]
 pub struct NextAlt {
     pub semicolon: At,
     pub alt: Alt,
@@ -135,28 +129,38 @@ pub struct NextAlt {
 
 /// An alternative, which may be empty.
 #[cycle(expressions)]
-#[derive(Debug, Drop)]
+#[derive(Drop)]
 pub enum Alt {
-    Empty,
+    Blank,
     /// A pattern, `->`, an expression, and local declarations.
-    Plain(Pat, At, Boxed<Exp>, Where),
+    Arrow(Pat, At, Boxed<Exp>, Where),
     /// A pattern, guarded expressions with `->`, and local declarations.
-    Guarded(Pat, Boxed<Guard>, Items<Guard>, Where),
+    Guarded(Pat, Boxed<ArrowGuard>, Items<ArrowGuard>, Where),
 }
 
-/// `|`, a condition, the sign `=` or `->`, and an expression.
+/// `|`, a condition, `->` and an expression.
 #[cycle(expressions)]
-#[derive(Debug, Drop)]
-pub struct Guard {
+#[derive(Drop)]
+pub struct ArrowGuard {
     pub bar: At,
     pub condition: Exp,
-    pub sign: At,
+    pub arrow: At,
+    pub exp: Exp,
+}
+
+/// `|`, a condition, `=` and an expression.
+#[cycle(expressions)]
+#[derive(Drop)]
+pub struct EqualGuard {
+    pub bar: At,
+    pub condition: Exp,
+    pub equal: At,
     pub exp: Exp,
 }
 
 /// `where` and declarations, or nothing.
 #[cycle(expressions)]
-#[derive(Debug, Drop)]
+#[derive(Drop)]
 pub enum Where {
     Absent,
     Present(At, Decls),
@@ -164,7 +168,7 @@ pub enum Where {
 
 /// Declarations in braces, with `;` between them.
 #[cycle(expressions)]
-#[derive(Debug, Drop)]
+#[derive(Drop)]
 pub struct Decls {
     pub open_at: At,
     pub first: Boxed<Decl>,
@@ -174,7 +178,7 @@ pub struct Decls {
 
 /// `;` and a declaration.
 #[cycle(expressions)]
-#[derive(Debug, Drop)]
+#[derive(Drop)]
 pub struct NextDecl {
     pub semicolon: At,
     pub decl: Decl,
@@ -182,41 +186,23 @@ pub struct NextDecl {
 
 /// A declaration, which may be empty.
 #[cycle(expressions)]
-#[derive(Debug, Drop)]
+#[derive(Drop)]
 pub enum Decl {
     Empty,
     /// Variables, `::` and a type.
-    Signature(Var, Items<CommaVar>, At, Type),
+    Signature(Var, Items<CommaVar>, At, TypeExp),
     /// An equation of a function, or a plain name and what it stands for.
     Equation(Head, Rhs),
     /// A pattern that is no plain name, and what it stands for.
     Binding(Pat, Rhs),
 }
 
-/// `,` and a variable.
-#[derive(Debug, Drop)]
-pub struct CommaVar {
-    pub comma: At,
-    pub var: Var,
-}
-
-/// What an equation defines, with its parameters.
-#[derive(Debug, Drop)]
-pub enum Head {
-    /// A variable and its parameters.
-    Prefix(Var, Items<Apat>),
-    /// An operator between its parameters.
-    Infix(Apat, VarOp, Apat),
-    /// An operator between its first parameters in parentheses, and the others.
-    Paren(At, Apat, VarOp, Apat, At, Apat, Items<Apat>),
-}
-
 /// The right side of an equation or a binding.
 #[cycle(expressions)]
-#[derive(Debug, Drop)]
+#[derive(Drop)]
 pub enum Rhs {
     /// `=`, an expression, and local declarations.
-    Plain(At, Boxed<Exp>, Where),
+    Equal(At, Boxed<Exp>, Where),
     /// Guarded expressions with `=`, and local declarations.
-    Guarded(Boxed<Guard>, Items<Guard>, Where),
+    Guards(Boxed<EqualGuard>, Items<EqualGuard>, Where),
 }

@@ -8,16 +8,26 @@
 
 mod exp;
 mod expression;
+mod expression_speller;
+mod head;
+mod head_speller;
 mod laws;
 mod name;
 mod pattern;
+mod pattern_speller;
+mod speller;
 mod token;
+mod type_speller;
 mod type_tree;
 
 pub use exp::Exp;
 pub use laws::one_tree;
 pub use token::{Token, Word};
-pub use expression::{Aexp, Alt, Alts, Apply, CommaExp, CommaQual, CommaVar, Decl, Decls, Exp as Expression, Guard, Head, Link, Minus, NextAlt, NextDecl, Operand, Qual, Rhs, Where};
-pub use name::{Literal, Name, Op, Var, VarOp};
+pub use expression::{
+    Aexp, Alt, Alts, Apply, ArrowGuard, CommaExp, CommaQual, Decl, Decls, EqualGuard, Exp as Expression,
+    Link, NextAlt, NextDecl, Operand, Qual, Rhs, Where,
+};
+pub use head::Head;
+pub use name::{CommaVar, Literal, Name, Op, Sign, Var, VarOp};
 pub use pattern::{Apat, CommaPat, ConsPat, LeftPat, Pat};
-pub use type_tree::{ArrowType, Atype, Btype, CommaType, Type};
+pub use type_tree::{ArrowType, Atype, Btype, CommaType, TypeExp};

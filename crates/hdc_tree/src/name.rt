@@ -3,14 +3,14 @@
 use hdc_base::{At, Runes, Text};
 
 /// A name of letters or of symbols, with its place.
-#[derive(Debug, Drop)]
+#[derive(Drop)]
 pub struct Name {
     pub at: At,
     pub text: Text,
 }
 
 /// A variable.
-#[derive(Debug, Drop)]
+#[derive(Drop)]
 pub enum Var {
     /// A name that begins with a small letter.
     Plain(Name),
@@ -19,7 +19,7 @@ pub enum Var {
 }
 
 /// An operator that is a variable.
-#[derive(Debug, Drop)]
+#[derive(Drop)]
 pub enum VarOp {
     /// A name of symbols.
     Symbol(Name),
@@ -28,7 +28,7 @@ pub enum VarOp {
 }
 
 /// An operator.
-#[derive(Debug, Drop)]
+#[derive(Drop)]
 pub enum Op {
     /// A variable.
     Var(VarOp),
@@ -39,7 +39,7 @@ pub enum Op {
 }
 
 /// A literal.
-#[derive(Debug, Drop)]
+#[derive(Drop)]
 pub enum Literal {
     /// A number.
     Num(u64),
@@ -47,4 +47,18 @@ pub enum Literal {
     Chr(u32),
     /// A string, by the codes of its characters.
     Str(Runes),
+}
+
+/// A `-` before an operand, with its place, or nothing.
+#[derive(Clone, Copy, Debug, PartialEq, Eq)]
+pub enum Sign {
+    Absent,
+    Minus(At),
+}
+
+/// `,` and a variable.
+#[derive(Drop)]
+pub struct CommaVar {
+    pub comma: At,
+    pub var: Var,
 }

@@ -6,7 +6,7 @@ use sqlite_items::{Boxed, Items};
 
 /// Patterns with `:` between them.
 #[cycle(patterns)]
-#[derive(Debug, Drop)]
+#[derive(Drop)]
 pub struct Pat {
     pub first: LeftPat,
     pub rest: Items<ConsPat>,
@@ -14,7 +14,7 @@ pub struct Pat {
 
 /// `:` and a pattern.
 #[cycle(patterns)]
-#[derive(Debug, Drop)]
+#[derive(Drop)]
 pub struct ConsPat {
     pub colon: At,
     pub pat: LeftPat,
@@ -22,7 +22,7 @@ pub struct ConsPat {
 
 /// A pattern that may stand beside a `:`.
 #[cycle(patterns)]
-#[derive(Debug, Drop)]
+#[derive(Drop)]
 pub enum LeftPat {
     /// A pattern that may be an argument.
     Plain(Apat),
@@ -34,7 +34,7 @@ pub enum LeftPat {
 
 /// A pattern that may be an argument.
 #[cycle(patterns)]
-#[derive(Debug, Drop)]
+#[derive(Drop)]
 pub enum Apat {
     /// A variable.
     Var(Name),
@@ -60,7 +60,7 @@ pub enum Apat {
 
 /// `,` and a pattern.
 #[cycle(patterns)]
-#[derive(Debug, Drop)]
+#[derive(Drop)]
 pub struct CommaPat {
     pub comma: At,
     pub pat: Pat,

@@ -6,15 +6,15 @@ use sqlite_items::{Boxed, Items};
 
 /// Types with `->` between them.
 #[cycle(types)]
-#[derive(Debug, Drop)]
-pub struct Type {
+#[derive(Drop)]
+pub struct TypeExp {
     pub first: Btype,
     pub rest: Items<ArrowType>,
 }
 
 /// `->` and a type.
 #[cycle(types)]
-#[derive(Debug, Drop)]
+#[derive(Drop)]
 pub struct ArrowType {
     pub arrow: At,
     pub part: Btype,
@@ -22,7 +22,7 @@ pub struct ArrowType {
 
 /// A type that may stand beside a `->`.
 #[cycle(types)]
-#[derive(Debug, Drop)]
+#[derive(Drop)]
 pub enum Btype {
     /// A type that may be an argument.
     Plain(Atype),
@@ -32,7 +32,7 @@ pub enum Btype {
 
 /// A type that may be an argument.
 #[cycle(types)]
-#[derive(Debug, Drop)]
+#[derive(Drop)]
 pub enum Atype {
     /// A constructor.
     Con(Name),
@@ -41,17 +41,17 @@ pub enum Atype {
     /// `(` `)`
     Unit(At, At),
     /// A type in parentheses.
-    Paren(At, Boxed<Type>, At),
+    Paren(At, Boxed<TypeExp>, At),
     /// Two to seven types in parentheses.
-    Tuple(At, Boxed<Type>, Items<CommaType>, At),
+    Tuple(At, Boxed<TypeExp>, Items<CommaType>, At),
     /// A type in brackets.
-    List(At, Boxed<Type>, At),
+    List(At, Boxed<TypeExp>, At),
 }
 
 /// `,` and a type.
 #[cycle(types)]
-#[derive(Debug, Drop)]
+#[derive(Drop)]
 pub struct CommaType {
     pub comma: At,
-    pub part: Type,
+    pub part: TypeExp,
 }

@@ -1,0 +1,13 @@
+use Rattle.std.proofs.Common.{◌≡◌, ◌≤◌, length, drop}
+use Rattle.hdc_tree.specs.NameSpelling.{each_onto, comma_var_onto}
+use Rattle.hdc_tree.proofs.speller.Speller.comma_vars.Given as goal
+
+-- the last of them are put before the others
+abbrev pub invariant-loop-count : goal.invariant-loop-count
+invariant-loop-count l = record {
+  within : l.count ≤ length l.parts;
+  put : l.self ≡ each_onto comma_var_onto (drop l.count l.parts) l.initial.self;
+}
+
+abbrev pub decreases-loop-count : goal.decreases-loop-count
+decreases-loop-count l = l.count
