@@ -6,6 +6,7 @@ pub mod PatternSpelling
 pub mod TypeSpelling
 pub mod HeadSpelling
 pub mod ExpressionSpelling
+pub mod ProgramSpelling
 pub mod Program
 pub mod Meaning
 pub mod Reading

@@ -15,6 +15,8 @@ mod laws;
 mod name;
 mod pattern;
 mod pattern_speller;
+mod program;
+mod program_speller;
 mod speller;
 mod token;
 mod type_speller;
@@ -31,3 +33,8 @@ pub use head::Head;
 pub use name::{CommaVar, Literal, Name, Op, Sign, Var, VarOp};
 pub use pattern::{Apat, CommaPat, ConsPat, LeftPat, Pat};
 pub use type_tree::{ArrowType, Atype, Btype, CommaType, TypeExp};
+pub use program::{
+    Associativity, BarConstr, CommaExport, CommaName, CommaVarOp, Constr, Data, Deriving, Export, Fixity,
+    ModuleHead, NextTop, Program, Synonym, Top,
+};
+pub use program_speller::spell;

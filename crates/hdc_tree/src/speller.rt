@@ -36,6 +36,18 @@ impl Speller {
         }
     }
 
+    /// The tokens.
+    pub fn tokens(self) -> Result<Tokens, Want>
+        ensures { IfOk result (λ tokens. tokens ≡ self) }
+    {
+        let Speller { alloc, mut tokens } = self;
+        let mut in_order = Vec::with_capacity(alloc, tokens.len())?;
+        while let Some(token) = tokens.pop() {
+            in_order.push(token)?;
+        }
+        Ok(Tokens::from_vec(in_order))
+    }
+
     /// A word before the tokens.
     pub fn word(&mut self, at: At, word: Word) -> Result<(), Want>
         ensures { OnOk result (self.new ≡ word_onto at word self.old) }

@@ -94,7 +94,7 @@ fn put_arrow_types(out: &mut Speller, parts: &[ArrowType]) -> Result<(), Want>
 }
 
 #[cycle(put_types)]
-fn put_atypes(out: &mut Speller, parts: &[Atype]) -> Result<(), Want>
+pub fn put_atypes(out: &mut Speller, parts: &[Atype]) -> Result<(), Want>
     ensures { OnOk result (out.new ≡ each_onto atype_onto parts.now out.old) }
 {
     let mut count = parts.len();
