@@ -69,16 +69,24 @@ pub enum Aexp {
     Paren(At, Boxed<Exp>, At),
     /// Two to seven expressions in parentheses.
     Tuple(At, Boxed<Exp>, Items<CommaExp>, At),
-    /// One expression or more in brackets.
-    List(At, Boxed<Exp>, Items<CommaExp>, At),
-    /// `[`, an expression, `..`, an expression, `]`.
-    Range(At, Boxed<Exp>, At, Boxed<Exp>, At),
-    /// `[`, an expression, `|`, qualifiers, `]`.
-    Comprehension(At, Boxed<Exp>, At, Qual, Items<CommaQual>, At),
+    /// A list.
+    List(ListExp),
     /// `(`, an expression, an operator, `)`.
     LeftSection(At, Boxed<Exp>, Op, At),
     /// `(`, an operator that is no `-`, an expression, `)`.
     RightSection(At, Op, Boxed<Exp>, At),
+}
+
+/// What stands in brackets.
+#[cycle(expressions)]
+#[derive(Drop)]
+pub enum ListExp {
+    /// One expression or more in brackets.
+    Members(At, Boxed<Exp>, Items<CommaExp>, At),
+    /// `[`, an expression, `..`, an expression, `]`.
+    Range(At, Boxed<Exp>, At, Boxed<Exp>, At),
+    /// `[`, an expression, `|`, qualifiers, `]`.
+    Comprehension(At, Boxed<Exp>, At, Qual, Items<CommaQual>, At),
 }
 
 /// `,` and an expression.

@@ -2,13 +2,16 @@
 
 ghost use Rattle.std.specs.Prelude.{◌≡◌, OnOk};
 ghost use Rattle.hdc_tree.specs.NameSpelling.{each_onto};
-ghost use Rattle.hdc_tree.specs.ExpressionSpelling.{aexp_onto, alt_onto, alts_onto, apply_onto, arrow_guard_onto, comma_exp_onto, comma_qual_onto, decl_onto, decls_onto, equal_guard_onto, exp_onto, link_onto, next_alt_onto, next_decl_onto, operand_onto, qual_onto, rhs_onto, where_onto};
+ghost use Rattle.hdc_tree.specs.ExpressionSpelling.{aexp_onto, alt_onto, alts_onto, apply_onto, arrow_guard_onto, comma_exp_onto, comma_qual_onto, decl_onto, decls_onto, equal_guard_onto, exp_onto, link_onto, list_exp_onto, next_alt_onto, next_decl_onto, operand_onto, qual_onto, rhs_onto, where_onto};
 
-use crate::expression::{Aexp, Alt, Decl, Operand, Qual, Rhs, Where, Alts, Apply, ArrowGuard, CommaExp, CommaQual, Decls, EqualGuard, Exp, Link, NextAlt, NextDecl};
-use crate::speller::Speller;
-use crate::pattern_speller::{put_apat, put_apats, put_pat};
-use crate::type_speller::put_type_exp;
+use crate::expression::{
+    Aexp, Alt, Alts, Apply, ArrowGuard, CommaExp, CommaQual, Decl, Decls, EqualGuard, Exp, Link,
+    ListExp, NextAlt, NextDecl, Operand, Qual, Rhs, Where,
+};
 use crate::head_speller::put_head;
+use crate::pattern_speller::{put_apat, put_apats, put_pat};
+use crate::speller::Speller;
+use crate::type_speller::put_type_exp;
 use hdc_base::{Key, Want, Word};
 
 #[cycle(put_expressions)]
@@ -44,27 +47,7 @@ fn put_aexp(out: &mut Speller, part: &Aexp) -> Result<(), Want>
             put_exp(out, first.get())?;
             out.key(*open_at, Key::KOpenParen)
         }
-        Aexp::List(open_at, first, rest, close_at) => {
-            out.key(*close_at, Key::KCloseBracket)?;
-            put_comma_exps(out, rest.as_slice())?;
-            put_exp(out, first.get())?;
-            out.key(*open_at, Key::KOpenBracket)
-        }
-        Aexp::Range(open_at, low, dots, high, close_at) => {
-            out.key(*close_at, Key::KCloseBracket)?;
-            put_exp(out, high.get())?;
-            out.key(*dots, Key::KDots)?;
-            put_exp(out, low.get())?;
-            out.key(*open_at, Key::KOpenBracket)
-        }
-        Aexp::Comprehension(open_at, head, bar, first, rest, close_at) => {
-            out.key(*close_at, Key::KCloseBracket)?;
-            put_comma_quals(out, rest.as_slice())?;
-            put_qual(out, first)?;
-            out.key(*bar, Key::KBar)?;
-            put_exp(out, head.get())?;
-            out.key(*open_at, Key::KOpenBracket)
-        }
+        Aexp::List(list) => put_list_exp(out, list),
         Aexp::LeftSection(open_at, left, op, close_at) => {
             out.key(*close_at, Key::KCloseParen)?;
             out.op(op)?;
@@ -128,6 +111,36 @@ fn put_decl(out: &mut Speller, part: &Decl) -> Result<(), Want>
 
 #[cycle(put_expressions)]
 #[tactic(auto, using(crate::proofs::ExpressionEquations::expressions_equations))]
+fn put_list_exp(out: &mut Speller, part: &ListExp) -> Result<(), Want>
+    ensures { OnOk result (out.new ≡ list_exp_onto part.now out.old) }
+{
+    match part {
+        ListExp::Members(open_at, first, rest, close_at) => {
+            out.key(*close_at, Key::KCloseBracket)?;
+            put_comma_exps(out, rest.as_slice())?;
+            put_exp(out, first.get())?;
+            out.key(*open_at, Key::KOpenBracket)
+        }
+        ListExp::Range(open_at, low, dots, high, close_at) => {
+            out.key(*close_at, Key::KCloseBracket)?;
+            put_exp(out, high.get())?;
+            out.key(*dots, Key::KDots)?;
+            put_exp(out, low.get())?;
+            out.key(*open_at, Key::KOpenBracket)
+        }
+        ListExp::Comprehension(open_at, head, bar, first, rest, close_at) => {
+            out.key(*close_at, Key::KCloseBracket)?;
+            put_comma_quals(out, rest.as_slice())?;
+            put_qual(out, first)?;
+            out.key(*bar, Key::KBar)?;
+            put_exp(out, head.get())?;
+            out.key(*open_at, Key::KOpenBracket)
+        }
+    }
+}
+
+#[cycle(put_expressions)]
+#[tactic(auto, using(crate::proofs::ExpressionEquations::expressions_equations))]
 fn put_operand(out: &mut Speller, part: &Operand) -> Result<(), Want>
     ensures { OnOk result (out.new ≡ operand_onto part.now out.old) }
 {
@@ -182,6 +195,7 @@ fn put_qual(out: &mut Speller, part: &Qual) -> Result<(), Want>
     }
 }
 
+/// The tokens of a right side, before others.
 #[cycle(put_expressions)]
 #[tactic(auto, using(crate::proofs::ExpressionEquations::expressions_equations))]
 pub fn put_rhs(out: &mut Speller, part: &Rhs) -> Result<(), Want>
@@ -266,7 +280,7 @@ fn put_comma_qual(out: &mut Speller, part: &CommaQual) -> Result<(), Want>
 
 #[cycle(put_expressions)]
 #[tactic(auto, using(crate::proofs::ExpressionEquations::expressions_equations))]
-pub fn put_decls(out: &mut Speller, part: &Decls) -> Result<(), Want>
+fn put_decls(out: &mut Speller, part: &Decls) -> Result<(), Want>
     ensures { OnOk result (out.new ≡ decls_onto part.now out.old) }
 {
     out.key(part.close_at, Key::KCloseBrace)?;
@@ -288,7 +302,7 @@ fn put_equal_guard(out: &mut Speller, part: &EqualGuard) -> Result<(), Want>
 
 #[cycle(put_expressions)]
 #[tactic(auto, using(crate::proofs::ExpressionEquations::expressions_equations))]
-pub fn put_exp(out: &mut Speller, part: &Exp) -> Result<(), Want>
+fn put_exp(out: &mut Speller, part: &Exp) -> Result<(), Want>
     ensures { OnOk result (out.new ≡ exp_onto part.now out.old) }
 {
     put_operand(out, &part.last)?;

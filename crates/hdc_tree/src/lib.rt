@@ -23,18 +23,21 @@ mod type_speller;
 mod type_tree;
 
 pub use exp::Exp;
-pub use laws::one_tree;
-pub use token::{Token, Word};
 pub use expression::{
-    Aexp, Alt, Alts, Apply, ArrowGuard, CommaExp, CommaQual, Decl, Decls, EqualGuard, Exp as Expression,
-    Link, NextAlt, NextDecl, Operand, Qual, Rhs, Where,
+    Aexp, Alt, Alts, Apply, ArrowGuard, CommaExp, CommaQual, Decl, Decls, EqualGuard,
+    Exp as Expression, Link, NextAlt, NextDecl, Operand, Qual, Rhs, Where,
 };
 pub use head::Head;
+pub use laws::one_tree;
 pub use name::{CommaVar, Literal, Name, Op, Sign, Var, VarOp};
 pub use pattern::{Apat, CommaPat, ConsPat, LeftPat, Pat};
-pub use type_tree::{ArrowType, Atype, Btype, CommaType, TypeExp};
 pub use program::{
-    Associativity, BarConstr, CommaExport, CommaName, CommaVarOp, Constr, Data, Deriving, Export, Fixity,
-    ModuleHead, NextTop, Program, Synonym, Top,
+    Associativity, BarConstr, CommaExport, CommaName, CommaVarOp, Constr, Data, Deriving, Export,
+    Fixity, ModuleHead, NextTop, Program, Synonym, Top,
 };
 pub use program_speller::spell;
+pub use token::{Token, Word};
+pub use type_tree::{ArrowType, Atype, Btype, CommaType, TypeExp};
+
+#[cfg(test)]
+mod tests;

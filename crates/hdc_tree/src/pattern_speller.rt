@@ -4,10 +4,11 @@ ghost use Rattle.std.specs.Prelude.{◌≡◌, OnOk};
 ghost use Rattle.hdc_tree.specs.NameSpelling.{each_onto};
 ghost use Rattle.hdc_tree.specs.PatternSpelling.{apat_onto, comma_pat_onto, cons_pat_onto, left_pat_onto, pat_onto};
 
-use crate::pattern::{Apat, LeftPat, CommaPat, ConsPat, Pat};
+use crate::pattern::{Apat, CommaPat, ConsPat, LeftPat, Pat};
 use crate::speller::Speller;
 use hdc_base::{Key, Want, Word};
 
+/// The tokens of a pattern that may be an argument, before others.
 #[cycle(put_patterns)]
 #[tactic(auto, using(crate::proofs::PatternEquations::patterns_equations))]
 pub fn put_apat(out: &mut Speller, part: &Apat) -> Result<(), Want>
@@ -88,6 +89,7 @@ fn put_cons_pat(out: &mut Speller, part: &ConsPat) -> Result<(), Want>
     out.key(part.colon, Key::KColon)
 }
 
+/// The tokens of a pattern, before others.
 #[cycle(put_patterns)]
 #[tactic(auto, using(crate::proofs::PatternEquations::patterns_equations))]
 pub fn put_pat(out: &mut Speller, part: &Pat) -> Result<(), Want>
@@ -97,6 +99,7 @@ pub fn put_pat(out: &mut Speller, part: &Pat) -> Result<(), Want>
     put_left_pat(out, &part.first)
 }
 
+/// The tokens of patterns in a row, before others.
 #[cycle(put_patterns)]
 pub fn put_apats(out: &mut Speller, parts: &[Apat]) -> Result<(), Want>
     ensures { OnOk result (out.new ≡ each_onto apat_onto parts.now out.old) }

@@ -4,13 +4,13 @@ ghost use Rattle.std.specs.Prelude.{◌≡◌, OnOk};
 ghost use Rattle.hdc_tree.specs.NameSpelling.{each_onto};
 ghost use Rattle.hdc_tree.specs.TypeSpelling.{arrow_type_onto, atype_onto, btype_onto, comma_type_onto, type_exp_onto};
 
-use crate::type_tree::{Atype, Btype, ArrowType, CommaType, TypeExp};
 use crate::speller::Speller;
+use crate::type_tree::{ArrowType, Atype, Btype, CommaType, TypeExp};
 use hdc_base::{Key, Want, Word};
 
 #[cycle(put_types)]
 #[tactic(auto, using(crate::proofs::TypeEquations::types_equations))]
-pub fn put_atype(out: &mut Speller, part: &Atype) -> Result<(), Want>
+fn put_atype(out: &mut Speller, part: &Atype) -> Result<(), Want>
     ensures { OnOk result (out.new ≡ atype_onto part.now out.old) }
 {
     match part {
@@ -72,6 +72,7 @@ fn put_comma_type(out: &mut Speller, part: &CommaType) -> Result<(), Want>
     out.key(part.comma, Key::KComma)
 }
 
+/// The tokens of a type, before others.
 #[cycle(put_types)]
 #[tactic(auto, using(crate::proofs::TypeEquations::types_equations))]
 pub fn put_type_exp(out: &mut Speller, part: &TypeExp) -> Result<(), Want>
@@ -93,6 +94,7 @@ fn put_arrow_types(out: &mut Speller, parts: &[ArrowType]) -> Result<(), Want>
     Ok(())
 }
 
+/// The tokens of types in a row, before others.
 #[cycle(put_types)]
 pub fn put_atypes(out: &mut Speller, parts: &[Atype]) -> Result<(), Want>
     ensures { OnOk result (out.new ≡ each_onto atype_onto parts.now out.old) }

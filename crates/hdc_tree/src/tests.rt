@@ -1,0 +1,5 @@
+//! Trees and their tokens.
+
+mod builder;
+mod declarations;
+mod expressions;
