@@ -13,9 +13,9 @@ use Rattle.hdc_tree.specs.declared.expression.Where.{Where, Where-F, fold-Where}
 use Rattle.hdc_tree.specs.declared.expression.Alts.{Alts, Alts-F, fold-Alts}
 use Rattle.hdc_tree.specs.declared.expression.Apply.{Apply, Apply-F, fold-Apply}
 use Rattle.hdc_tree.specs.declared.expression.ArrowGuard.{ArrowGuard, ArrowGuard-F, fold-ArrowGuard}
+use Rattle.hdc_tree.specs.declared.expression.Block.{Block, Block-F, fold-Block}
 use Rattle.hdc_tree.specs.declared.expression.CommaExp.{CommaExp, CommaExp-F, fold-CommaExp}
 use Rattle.hdc_tree.specs.declared.expression.CommaQual.{CommaQual, CommaQual-F, fold-CommaQual}
-use Rattle.hdc_tree.specs.declared.expression.Decls.{Decls, Decls-F, fold-Decls}
 use Rattle.hdc_tree.specs.declared.expression.EqualGuard.{EqualGuard, EqualGuard-F, fold-EqualGuard}
 use Rattle.hdc_tree.specs.declared.expression.Exp.{Exp, Exp-F, fold-Exp}
 use Rattle.hdc_tree.specs.declared.expression.Link.{Link, Link-F, fold-Link}
@@ -85,14 +85,14 @@ apply_step part k = part.head (all_onto part.args k)
 abbrev pub arrow_guard_step : ArrowGuard-F Puts Puts Puts Puts Puts Puts Puts Puts Puts Puts Puts Puts Puts Puts Puts Puts Puts Puts Puts → Puts
 arrow_guard_step part k = key_onto part.bar key.KBar (part.condition (key_onto part.arrow key.KRightArrow (part.exp k)))
 
+abbrev pub block_step : Block-F Puts Puts Puts Puts Puts Puts Puts Puts Puts Puts Puts Puts Puts Puts Puts Puts Puts Puts Puts → Puts
+block_step part k = key_onto part.open_at key.KOpenBrace (part.first (all_onto part.rest (key_onto part.close_at key.KCloseBrace k)))
+
 abbrev pub comma_exp_step : CommaExp-F Puts Puts Puts Puts Puts Puts Puts Puts Puts Puts Puts Puts Puts Puts Puts Puts Puts Puts Puts → Puts
 comma_exp_step part k = key_onto part.comma key.KComma (part.exp k)
 
 abbrev pub comma_qual_step : CommaQual-F Puts Puts Puts Puts Puts Puts Puts Puts Puts Puts Puts Puts Puts Puts Puts Puts Puts Puts Puts → Puts
 comma_qual_step part k = key_onto part.comma key.KComma (part.qual k)
-
-abbrev pub decls_step : Decls-F Puts Puts Puts Puts Puts Puts Puts Puts Puts Puts Puts Puts Puts Puts Puts Puts Puts Puts Puts → Puts
-decls_step part k = key_onto part.open_at key.KOpenBrace (part.first (all_onto part.rest (key_onto part.close_at key.KCloseBrace k)))
 
 abbrev pub equal_guard_step : EqualGuard-F Puts Puts Puts Puts Puts Puts Puts Puts Puts Puts Puts Puts Puts Puts Puts Puts Puts Puts Puts → Puts
 equal_guard_step part k = key_onto part.bar key.KBar (part.condition (key_onto part.equal key.KEqual (part.exp k)))
@@ -110,58 +110,58 @@ abbrev pub next_decl_step : NextDecl-F Puts Puts Puts Puts Puts Puts Puts Puts P
 next_decl_step part k = key_onto part.semicolon key.KSemicolon (part.decl k)
 
 abbrev pub aexp_onto : Aexp → Puts
-aexp_onto = fold-Aexp Puts Puts Puts Puts Puts Puts Puts Puts Puts Puts Puts Puts Puts Puts Puts Puts Puts Puts Puts aexp_step alt_step decl_step list_exp_step operand_step qual_step rhs_step where_step alts_step apply_step arrow_guard_step comma_exp_step comma_qual_step decls_step equal_guard_step exp_step link_step next_alt_step next_decl_step
+aexp_onto = fold-Aexp Puts Puts Puts Puts Puts Puts Puts Puts Puts Puts Puts Puts Puts Puts Puts Puts Puts Puts Puts aexp_step alt_step decl_step list_exp_step operand_step qual_step rhs_step where_step alts_step apply_step arrow_guard_step block_step comma_exp_step comma_qual_step equal_guard_step exp_step link_step next_alt_step next_decl_step
 
 abbrev pub alt_onto : Alt → Puts
-alt_onto = fold-Alt Puts Puts Puts Puts Puts Puts Puts Puts Puts Puts Puts Puts Puts Puts Puts Puts Puts Puts Puts aexp_step alt_step decl_step list_exp_step operand_step qual_step rhs_step where_step alts_step apply_step arrow_guard_step comma_exp_step comma_qual_step decls_step equal_guard_step exp_step link_step next_alt_step next_decl_step
+alt_onto = fold-Alt Puts Puts Puts Puts Puts Puts Puts Puts Puts Puts Puts Puts Puts Puts Puts Puts Puts Puts Puts aexp_step alt_step decl_step list_exp_step operand_step qual_step rhs_step where_step alts_step apply_step arrow_guard_step block_step comma_exp_step comma_qual_step equal_guard_step exp_step link_step next_alt_step next_decl_step
 
 abbrev pub decl_onto : Decl → Puts
-decl_onto = fold-Decl Puts Puts Puts Puts Puts Puts Puts Puts Puts Puts Puts Puts Puts Puts Puts Puts Puts Puts Puts aexp_step alt_step decl_step list_exp_step operand_step qual_step rhs_step where_step alts_step apply_step arrow_guard_step comma_exp_step comma_qual_step decls_step equal_guard_step exp_step link_step next_alt_step next_decl_step
+decl_onto = fold-Decl Puts Puts Puts Puts Puts Puts Puts Puts Puts Puts Puts Puts Puts Puts Puts Puts Puts Puts Puts aexp_step alt_step decl_step list_exp_step operand_step qual_step rhs_step where_step alts_step apply_step arrow_guard_step block_step comma_exp_step comma_qual_step equal_guard_step exp_step link_step next_alt_step next_decl_step
 
 abbrev pub list_exp_onto : ListExp → Puts
-list_exp_onto = fold-ListExp Puts Puts Puts Puts Puts Puts Puts Puts Puts Puts Puts Puts Puts Puts Puts Puts Puts Puts Puts aexp_step alt_step decl_step list_exp_step operand_step qual_step rhs_step where_step alts_step apply_step arrow_guard_step comma_exp_step comma_qual_step decls_step equal_guard_step exp_step link_step next_alt_step next_decl_step
+list_exp_onto = fold-ListExp Puts Puts Puts Puts Puts Puts Puts Puts Puts Puts Puts Puts Puts Puts Puts Puts Puts Puts Puts aexp_step alt_step decl_step list_exp_step operand_step qual_step rhs_step where_step alts_step apply_step arrow_guard_step block_step comma_exp_step comma_qual_step equal_guard_step exp_step link_step next_alt_step next_decl_step
 
 abbrev pub operand_onto : Operand → Puts
-operand_onto = fold-Operand Puts Puts Puts Puts Puts Puts Puts Puts Puts Puts Puts Puts Puts Puts Puts Puts Puts Puts Puts aexp_step alt_step decl_step list_exp_step operand_step qual_step rhs_step where_step alts_step apply_step arrow_guard_step comma_exp_step comma_qual_step decls_step equal_guard_step exp_step link_step next_alt_step next_decl_step
+operand_onto = fold-Operand Puts Puts Puts Puts Puts Puts Puts Puts Puts Puts Puts Puts Puts Puts Puts Puts Puts Puts Puts aexp_step alt_step decl_step list_exp_step operand_step qual_step rhs_step where_step alts_step apply_step arrow_guard_step block_step comma_exp_step comma_qual_step equal_guard_step exp_step link_step next_alt_step next_decl_step
 
 abbrev pub qual_onto : Qual → Puts
-qual_onto = fold-Qual Puts Puts Puts Puts Puts Puts Puts Puts Puts Puts Puts Puts Puts Puts Puts Puts Puts Puts Puts aexp_step alt_step decl_step list_exp_step operand_step qual_step rhs_step where_step alts_step apply_step arrow_guard_step comma_exp_step comma_qual_step decls_step equal_guard_step exp_step link_step next_alt_step next_decl_step
+qual_onto = fold-Qual Puts Puts Puts Puts Puts Puts Puts Puts Puts Puts Puts Puts Puts Puts Puts Puts Puts Puts Puts aexp_step alt_step decl_step list_exp_step operand_step qual_step rhs_step where_step alts_step apply_step arrow_guard_step block_step comma_exp_step comma_qual_step equal_guard_step exp_step link_step next_alt_step next_decl_step
 
 abbrev pub rhs_onto : Rhs → Puts
-rhs_onto = fold-Rhs Puts Puts Puts Puts Puts Puts Puts Puts Puts Puts Puts Puts Puts Puts Puts Puts Puts Puts Puts aexp_step alt_step decl_step list_exp_step operand_step qual_step rhs_step where_step alts_step apply_step arrow_guard_step comma_exp_step comma_qual_step decls_step equal_guard_step exp_step link_step next_alt_step next_decl_step
+rhs_onto = fold-Rhs Puts Puts Puts Puts Puts Puts Puts Puts Puts Puts Puts Puts Puts Puts Puts Puts Puts Puts Puts aexp_step alt_step decl_step list_exp_step operand_step qual_step rhs_step where_step alts_step apply_step arrow_guard_step block_step comma_exp_step comma_qual_step equal_guard_step exp_step link_step next_alt_step next_decl_step
 
 abbrev pub where_onto : Where → Puts
-where_onto = fold-Where Puts Puts Puts Puts Puts Puts Puts Puts Puts Puts Puts Puts Puts Puts Puts Puts Puts Puts Puts aexp_step alt_step decl_step list_exp_step operand_step qual_step rhs_step where_step alts_step apply_step arrow_guard_step comma_exp_step comma_qual_step decls_step equal_guard_step exp_step link_step next_alt_step next_decl_step
+where_onto = fold-Where Puts Puts Puts Puts Puts Puts Puts Puts Puts Puts Puts Puts Puts Puts Puts Puts Puts Puts Puts aexp_step alt_step decl_step list_exp_step operand_step qual_step rhs_step where_step alts_step apply_step arrow_guard_step block_step comma_exp_step comma_qual_step equal_guard_step exp_step link_step next_alt_step next_decl_step
 
 abbrev pub alts_onto : Alts → Puts
-alts_onto = fold-Alts Puts Puts Puts Puts Puts Puts Puts Puts Puts Puts Puts Puts Puts Puts Puts Puts Puts Puts Puts aexp_step alt_step decl_step list_exp_step operand_step qual_step rhs_step where_step alts_step apply_step arrow_guard_step comma_exp_step comma_qual_step decls_step equal_guard_step exp_step link_step next_alt_step next_decl_step
+alts_onto = fold-Alts Puts Puts Puts Puts Puts Puts Puts Puts Puts Puts Puts Puts Puts Puts Puts Puts Puts Puts Puts aexp_step alt_step decl_step list_exp_step operand_step qual_step rhs_step where_step alts_step apply_step arrow_guard_step block_step comma_exp_step comma_qual_step equal_guard_step exp_step link_step next_alt_step next_decl_step
 
 abbrev pub apply_onto : Apply → Puts
-apply_onto = fold-Apply Puts Puts Puts Puts Puts Puts Puts Puts Puts Puts Puts Puts Puts Puts Puts Puts Puts Puts Puts aexp_step alt_step decl_step list_exp_step operand_step qual_step rhs_step where_step alts_step apply_step arrow_guard_step comma_exp_step comma_qual_step decls_step equal_guard_step exp_step link_step next_alt_step next_decl_step
+apply_onto = fold-Apply Puts Puts Puts Puts Puts Puts Puts Puts Puts Puts Puts Puts Puts Puts Puts Puts Puts Puts Puts aexp_step alt_step decl_step list_exp_step operand_step qual_step rhs_step where_step alts_step apply_step arrow_guard_step block_step comma_exp_step comma_qual_step equal_guard_step exp_step link_step next_alt_step next_decl_step
 
 abbrev pub arrow_guard_onto : ArrowGuard → Puts
-arrow_guard_onto = fold-ArrowGuard Puts Puts Puts Puts Puts Puts Puts Puts Puts Puts Puts Puts Puts Puts Puts Puts Puts Puts Puts aexp_step alt_step decl_step list_exp_step operand_step qual_step rhs_step where_step alts_step apply_step arrow_guard_step comma_exp_step comma_qual_step decls_step equal_guard_step exp_step link_step next_alt_step next_decl_step
+arrow_guard_onto = fold-ArrowGuard Puts Puts Puts Puts Puts Puts Puts Puts Puts Puts Puts Puts Puts Puts Puts Puts Puts Puts Puts aexp_step alt_step decl_step list_exp_step operand_step qual_step rhs_step where_step alts_step apply_step arrow_guard_step block_step comma_exp_step comma_qual_step equal_guard_step exp_step link_step next_alt_step next_decl_step
+
+abbrev pub block_onto : Block → Puts
+block_onto = fold-Block Puts Puts Puts Puts Puts Puts Puts Puts Puts Puts Puts Puts Puts Puts Puts Puts Puts Puts Puts aexp_step alt_step decl_step list_exp_step operand_step qual_step rhs_step where_step alts_step apply_step arrow_guard_step block_step comma_exp_step comma_qual_step equal_guard_step exp_step link_step next_alt_step next_decl_step
 
 abbrev pub comma_exp_onto : CommaExp → Puts
-comma_exp_onto = fold-CommaExp Puts Puts Puts Puts Puts Puts Puts Puts Puts Puts Puts Puts Puts Puts Puts Puts Puts Puts Puts aexp_step alt_step decl_step list_exp_step operand_step qual_step rhs_step where_step alts_step apply_step arrow_guard_step comma_exp_step comma_qual_step decls_step equal_guard_step exp_step link_step next_alt_step next_decl_step
+comma_exp_onto = fold-CommaExp Puts Puts Puts Puts Puts Puts Puts Puts Puts Puts Puts Puts Puts Puts Puts Puts Puts Puts Puts aexp_step alt_step decl_step list_exp_step operand_step qual_step rhs_step where_step alts_step apply_step arrow_guard_step block_step comma_exp_step comma_qual_step equal_guard_step exp_step link_step next_alt_step next_decl_step
 
 abbrev pub comma_qual_onto : CommaQual → Puts
-comma_qual_onto = fold-CommaQual Puts Puts Puts Puts Puts Puts Puts Puts Puts Puts Puts Puts Puts Puts Puts Puts Puts Puts Puts aexp_step alt_step decl_step list_exp_step operand_step qual_step rhs_step where_step alts_step apply_step arrow_guard_step comma_exp_step comma_qual_step decls_step equal_guard_step exp_step link_step next_alt_step next_decl_step
-
-abbrev pub decls_onto : Decls → Puts
-decls_onto = fold-Decls Puts Puts Puts Puts Puts Puts Puts Puts Puts Puts Puts Puts Puts Puts Puts Puts Puts Puts Puts aexp_step alt_step decl_step list_exp_step operand_step qual_step rhs_step where_step alts_step apply_step arrow_guard_step comma_exp_step comma_qual_step decls_step equal_guard_step exp_step link_step next_alt_step next_decl_step
+comma_qual_onto = fold-CommaQual Puts Puts Puts Puts Puts Puts Puts Puts Puts Puts Puts Puts Puts Puts Puts Puts Puts Puts Puts aexp_step alt_step decl_step list_exp_step operand_step qual_step rhs_step where_step alts_step apply_step arrow_guard_step block_step comma_exp_step comma_qual_step equal_guard_step exp_step link_step next_alt_step next_decl_step
 
 abbrev pub equal_guard_onto : EqualGuard → Puts
-equal_guard_onto = fold-EqualGuard Puts Puts Puts Puts Puts Puts Puts Puts Puts Puts Puts Puts Puts Puts Puts Puts Puts Puts Puts aexp_step alt_step decl_step list_exp_step operand_step qual_step rhs_step where_step alts_step apply_step arrow_guard_step comma_exp_step comma_qual_step decls_step equal_guard_step exp_step link_step next_alt_step next_decl_step
+equal_guard_onto = fold-EqualGuard Puts Puts Puts Puts Puts Puts Puts Puts Puts Puts Puts Puts Puts Puts Puts Puts Puts Puts Puts aexp_step alt_step decl_step list_exp_step operand_step qual_step rhs_step where_step alts_step apply_step arrow_guard_step block_step comma_exp_step comma_qual_step equal_guard_step exp_step link_step next_alt_step next_decl_step
 
 abbrev pub exp_onto : Exp → Puts
-exp_onto = fold-Exp Puts Puts Puts Puts Puts Puts Puts Puts Puts Puts Puts Puts Puts Puts Puts Puts Puts Puts Puts aexp_step alt_step decl_step list_exp_step operand_step qual_step rhs_step where_step alts_step apply_step arrow_guard_step comma_exp_step comma_qual_step decls_step equal_guard_step exp_step link_step next_alt_step next_decl_step
+exp_onto = fold-Exp Puts Puts Puts Puts Puts Puts Puts Puts Puts Puts Puts Puts Puts Puts Puts Puts Puts Puts Puts aexp_step alt_step decl_step list_exp_step operand_step qual_step rhs_step where_step alts_step apply_step arrow_guard_step block_step comma_exp_step comma_qual_step equal_guard_step exp_step link_step next_alt_step next_decl_step
 
 abbrev pub link_onto : Link → Puts
-link_onto = fold-Link Puts Puts Puts Puts Puts Puts Puts Puts Puts Puts Puts Puts Puts Puts Puts Puts Puts Puts Puts aexp_step alt_step decl_step list_exp_step operand_step qual_step rhs_step where_step alts_step apply_step arrow_guard_step comma_exp_step comma_qual_step decls_step equal_guard_step exp_step link_step next_alt_step next_decl_step
+link_onto = fold-Link Puts Puts Puts Puts Puts Puts Puts Puts Puts Puts Puts Puts Puts Puts Puts Puts Puts Puts Puts aexp_step alt_step decl_step list_exp_step operand_step qual_step rhs_step where_step alts_step apply_step arrow_guard_step block_step comma_exp_step comma_qual_step equal_guard_step exp_step link_step next_alt_step next_decl_step
 
 abbrev pub next_alt_onto : NextAlt → Puts
-next_alt_onto = fold-NextAlt Puts Puts Puts Puts Puts Puts Puts Puts Puts Puts Puts Puts Puts Puts Puts Puts Puts Puts Puts aexp_step alt_step decl_step list_exp_step operand_step qual_step rhs_step where_step alts_step apply_step arrow_guard_step comma_exp_step comma_qual_step decls_step equal_guard_step exp_step link_step next_alt_step next_decl_step
+next_alt_onto = fold-NextAlt Puts Puts Puts Puts Puts Puts Puts Puts Puts Puts Puts Puts Puts Puts Puts Puts Puts Puts Puts aexp_step alt_step decl_step list_exp_step operand_step qual_step rhs_step where_step alts_step apply_step arrow_guard_step block_step comma_exp_step comma_qual_step equal_guard_step exp_step link_step next_alt_step next_decl_step
 
 abbrev pub next_decl_onto : NextDecl → Puts
-next_decl_onto = fold-NextDecl Puts Puts Puts Puts Puts Puts Puts Puts Puts Puts Puts Puts Puts Puts Puts Puts Puts Puts Puts aexp_step alt_step decl_step list_exp_step operand_step qual_step rhs_step where_step alts_step apply_step arrow_guard_step comma_exp_step comma_qual_step decls_step equal_guard_step exp_step link_step next_alt_step next_decl_step
+next_decl_onto = fold-NextDecl Puts Puts Puts Puts Puts Puts Puts Puts Puts Puts Puts Puts Puts Puts Puts Puts Puts Puts Puts aexp_step alt_step decl_step list_exp_step operand_step qual_step rhs_step where_step alts_step apply_step arrow_guard_step block_step comma_exp_step comma_qual_step equal_guard_step exp_step link_step next_alt_step next_decl_step

@@ -1,5 +1,5 @@
 -- How names, operators and literals are spelled. Each puts its tokens before those that follow.
-use Rattle.std.specs.Prelude.{ℕ, List, [], ◌∷◌, codes}
+use Rattle.std.specs.Prelude.{List, [], ◌∷◌, codes}
 use Rattle.hdc_base.specs.declared.place.At.{At}
 use Rattle.hdc_base.specs.declared.token.Key.{Key}
 use Rattle.hdc_base.specs.declared.token.Key.TheVariants as key
@@ -30,7 +30,7 @@ word_onto at w k = record { at = at; word = w } ∷ k
 abbrev pub key_onto : At → Key → Puts
 key_onto at k rest = word_onto at (word.Key k) rest
 
--- a name that begins with a small letter, with a capital letter, and a name of symbols
+-- a name that begins with a small letter or _, one that begins with a capital letter, and a name of symbols
 abbrev pub small_onto : Name → Puts
 small_onto n k = word_onto n.at (word.Var n.text) k
 

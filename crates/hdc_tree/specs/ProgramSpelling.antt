@@ -4,7 +4,7 @@ use Rattle.hdc_base.specs.declared.token.Key.{Key}
 use Rattle.hdc_base.specs.declared.token.Key.TheVariants as key
 use Rattle.hdc_base.specs.declared.token.Word.TheVariants as word
 use Rattle.hdc_base.specs.declared.token.Token as text_token
-use Rattle.hdc_tree.specs.declared.program.Program.{Program}
+use Rattle.hdc_tree.specs.declared.program.Tree.{Tree}
 use Rattle.hdc_tree.specs.declared.program.ModuleHead.{ModuleHead}
 use Rattle.hdc_tree.specs.declared.program.Export.{Export}
 use Rattle.hdc_tree.specs.declared.program.CommaExport.{CommaExport}
@@ -60,7 +60,7 @@ abbrev pub data_onto : Data → Puts
 data_onto part k = key_onto part.at key.KData (capital_onto part.name (each_onto small_onto part.params (key_onto part.equal key.KEqual (constr_onto part.first (each_onto bar_constr_onto part.rest (deriving_onto part.derived k))))))
 
 abbrev pub synonym_onto : Synonym → Puts
-synonym_onto part k = key_onto part.at key.KType (capital_onto part.name (each_onto small_onto part.params (key_onto part.equal key.KEqual (type_exp_onto part.part k))))
+synonym_onto part k = key_onto part.at key.KType (capital_onto part.name (each_onto small_onto part.params (key_onto part.equal key.KEqual (type_exp_onto part.meaning k))))
 
 abbrev pub fixity_key : Associativity → Key
 fixity_key side.Neither = key.KInfix
@@ -84,9 +84,9 @@ top_onto (top.Equation what rhs) k = head_onto what (rhs_onto rhs k)
 abbrev pub next_top_onto : NextTop → Puts
 next_top_onto part k = key_onto part.semicolon key.KSemicolon (top_onto part.top k)
 
-abbrev pub program_onto : Program → Puts
-program_onto part k = module_head_onto part.head (key_onto part.open_at key.KOpenBrace (top_onto part.first (each_onto next_top_onto part.rest (key_onto part.close_at key.KCloseBrace k))))
+abbrev pub tree_onto : Tree → Puts
+tree_onto part k = module_head_onto part.head (key_onto part.open_at key.KOpenBrace (top_onto part.first (each_onto next_top_onto part.rest (key_onto part.close_at key.KCloseBrace k))))
 
--- the tokens of a program
-abbrev pub spell : Program → List text_token.Token
-spell program = program_onto program []
+-- the tokens of a tree, from the first to the last
+abbrev pub spell : Tree → List text_token.Token
+spell tree = tree_onto tree []

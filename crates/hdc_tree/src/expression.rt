@@ -42,7 +42,7 @@ pub enum Operand {
     /// `\`, patterns, `->` and an expression.
     Lambda(At, Apat, Items<Apat>, At, Boxed<Exp>),
     /// `let`, declarations, `in` and an expression.
-    Let(At, Decls, At, Boxed<Exp>),
+    Let(At, Block, At, Boxed<Exp>),
     /// `if`, `then` and `else`, each with an expression.
     If(At, Boxed<Exp>, At, Boxed<Exp>, At, Boxed<Exp>),
     /// `case`, an expression, `of` and alternatives.
@@ -67,13 +67,13 @@ pub enum Aexp {
     Cons(At, At, At),
     /// An expression in parentheses.
     Paren(At, Boxed<Exp>, At),
-    /// Two to seven expressions in parentheses.
+    /// Expressions in parentheses, of which the grammar has two to seven.
     Tuple(At, Boxed<Exp>, Items<CommaExp>, At),
     /// A list.
     List(ListExp),
     /// `(`, an expression, an operator, `)`.
     LeftSection(At, Boxed<Exp>, Op, At),
-    /// `(`, an operator that is no `-`, an expression, `)`.
+    /// `(`, an operator, which the grammar does not have as `-`, an expression, `)`.
     RightSection(At, Op, Boxed<Exp>, At),
 }
 
@@ -81,7 +81,7 @@ pub enum Aexp {
 #[cycle(expressions)]
 #[derive(Drop)]
 pub enum ListExp {
-    /// One expression or more in brackets.
+    /// Expressions in brackets.
     Members(At, Boxed<Exp>, Items<CommaExp>, At),
     /// `[`, an expression, `..`, an expression, `]`.
     Range(At, Boxed<Exp>, At, Boxed<Exp>, At),
@@ -106,7 +106,7 @@ pub enum Qual {
     /// An expression.
     Condition(Boxed<Exp>),
     /// `let` and declarations.
-    Local(At, Decls),
+    Local(At, Block),
 }
 
 /// `,` and a part of a comprehension.
@@ -117,7 +117,7 @@ pub struct CommaQual {
     pub qual: Qual,
 }
 
-/// Alternatives in braces, with `;` between them.
+/// Alternatives in braces, with `;` between them; the grammar has one that is not empty.
 #[cycle(expressions)]
 #[derive(Drop)]
 pub struct Alts {
@@ -171,13 +171,13 @@ pub struct EqualGuard {
 #[derive(Drop)]
 pub enum Where {
     Absent,
-    Present(At, Decls),
+    Present(At, Block),
 }
 
 /// Declarations in braces, with `;` between them.
 #[cycle(expressions)]
 #[derive(Drop)]
-pub struct Decls {
+pub struct Block {
     pub open_at: At,
     pub first: Boxed<Decl>,
     pub rest: Items<NextDecl>,
@@ -201,7 +201,7 @@ pub enum Decl {
     Signature(Var, Items<CommaVar>, At, TypeExp),
     /// An equation of a function, or a plain name and what it stands for.
     Equation(Head, Rhs),
-    /// A pattern that is no plain name, and what it stands for.
+    /// A pattern, which the grammar does not have as a plain name, and what it stands for.
     Binding(Pat, Rhs),
 }
 

@@ -2,10 +2,10 @@
 
 ghost use Rattle.std.specs.Prelude.{◌≡◌, OnOk};
 ghost use Rattle.hdc_tree.specs.NameSpelling.{each_onto};
-ghost use Rattle.hdc_tree.specs.ExpressionSpelling.{aexp_onto, alt_onto, alts_onto, apply_onto, arrow_guard_onto, comma_exp_onto, comma_qual_onto, decl_onto, decls_onto, equal_guard_onto, exp_onto, link_onto, list_exp_onto, next_alt_onto, next_decl_onto, operand_onto, qual_onto, rhs_onto, where_onto};
+ghost use Rattle.hdc_tree.specs.ExpressionSpelling.{aexp_onto, alt_onto, alts_onto, apply_onto, arrow_guard_onto, block_onto, comma_exp_onto, comma_qual_onto, decl_onto, equal_guard_onto, exp_onto, link_onto, list_exp_onto, next_alt_onto, next_decl_onto, operand_onto, qual_onto, rhs_onto, where_onto};
 
 use crate::expression::{
-    Aexp, Alt, Alts, Apply, ArrowGuard, CommaExp, CommaQual, Decl, Decls, EqualGuard, Exp, Link,
+    Aexp, Alt, Alts, Apply, ArrowGuard, Block, CommaExp, CommaQual, Decl, EqualGuard, Exp, Link,
     ListExp, NextAlt, NextDecl, Operand, Qual, Rhs, Where,
 };
 use crate::head_speller::put_head;
@@ -156,7 +156,7 @@ fn put_operand(out: &mut Speller, part: &Operand) -> Result<(), Want>
         Operand::Let(at, decls, in_at, body) => {
             put_exp(out, body.get())?;
             out.key(*in_at, Key::KIn)?;
-            put_decls(out, decls)?;
+            put_block(out, decls)?;
             out.key(*at, Key::KLet)
         }
         Operand::If(at, condition, then_at, positive, else_at, negative) => {
@@ -189,7 +189,7 @@ fn put_qual(out: &mut Speller, part: &Qual) -> Result<(), Want>
         }
         Qual::Condition(exp) => put_exp(out, exp.get()),
         Qual::Local(at, decls) => {
-            put_decls(out, decls)?;
+            put_block(out, decls)?;
             out.key(*at, Key::KLet)
         }
     }
@@ -223,7 +223,7 @@ fn put_where(out: &mut Speller, part: &Where) -> Result<(), Want>
     match part {
         Where::Absent => Ok(()),
         Where::Present(at, decls) => {
-            put_decls(out, decls)?;
+            put_block(out, decls)?;
             out.key(*at, Key::KWhere)
         }
     }
@@ -262,6 +262,17 @@ fn put_arrow_guard(out: &mut Speller, part: &ArrowGuard) -> Result<(), Want>
 
 #[cycle(put_expressions)]
 #[tactic(auto, using(crate::proofs::ExpressionEquations::expressions_equations))]
+fn put_block(out: &mut Speller, part: &Block) -> Result<(), Want>
+    ensures { OnOk result (out.new ≡ block_onto part.now out.old) }
+{
+    out.key(part.close_at, Key::KCloseBrace)?;
+    put_next_decls(out, part.rest.as_slice())?;
+    put_decl(out, part.first.get())?;
+    out.key(part.open_at, Key::KOpenBrace)
+}
+
+#[cycle(put_expressions)]
+#[tactic(auto, using(crate::proofs::ExpressionEquations::expressions_equations))]
 fn put_comma_exp(out: &mut Speller, part: &CommaExp) -> Result<(), Want>
     ensures { OnOk result (out.new ≡ comma_exp_onto part.now out.old) }
 {
@@ -276,17 +287,6 @@ fn put_comma_qual(out: &mut Speller, part: &CommaQual) -> Result<(), Want>
 {
     put_qual(out, &part.qual)?;
     out.key(part.comma, Key::KComma)
-}
-
-#[cycle(put_expressions)]
-#[tactic(auto, using(crate::proofs::ExpressionEquations::expressions_equations))]
-fn put_decls(out: &mut Speller, part: &Decls) -> Result<(), Want>
-    ensures { OnOk result (out.new ≡ decls_onto part.now out.old) }
-{
-    out.key(part.close_at, Key::KCloseBrace)?;
-    put_next_decls(out, part.rest.as_slice())?;
-    put_decl(out, part.first.get())?;
-    out.key(part.open_at, Key::KOpenBrace)
 }
 
 #[cycle(put_expressions)]

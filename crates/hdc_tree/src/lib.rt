@@ -1,9 +1,12 @@
-//! Trees of arithmetic, how they are spelled, and what they mean.
+//! Trees as they are written, their spelling, and the meaning of trees of arithmetic.
 //!
-//! `Exp` is a tree as a pass holds it. Definitions speak of `Tree`, the same tree without its boxes
-//! (`specs/Tree.antt`). The laid-out tokens of a text spell a tree where they are those of its spelling
-//! (`specs/Spelling.antt`, `specs/Lexemes.antt`); `one_tree` says that no tokens spell two. What a tree means is
-//! said with a budget of unfoldings (`specs/Meaning.antt`).
+//! `Tree` is a program of the whole language as it is written; `spell` gives its tokens
+//! (`specs/ProgramSpelling.antt`).
+//!
+//! `Exp` is a tree of arithmetic as a pass holds it. Definitions speak of the same tree without its boxes
+//! (`specs/Tree.antt`). The laid-out tokens of a text spell such a tree where they are those of its
+//! spelling (`specs/Spelling.antt`, `specs/Lexemes.antt`); `one_tree` says that no tokens spell two. What
+//! such a tree means is said with a budget of unfoldings (`specs/Meaning.antt`).
 #![tactic(auto)]
 
 mod exp;
@@ -24,7 +27,7 @@ mod type_tree;
 
 pub use exp::Exp;
 pub use expression::{
-    Aexp, Alt, Alts, Apply, ArrowGuard, CommaExp, CommaQual, Decl, Decls, EqualGuard,
+    Aexp, Alt, Alts, Apply, ArrowGuard, Block, CommaExp, CommaQual, Decl, EqualGuard,
     Exp as Expression, Link, NextAlt, NextDecl, Operand, Qual, Rhs, Where,
 };
 pub use head::Head;
@@ -33,7 +36,7 @@ pub use name::{CommaVar, Literal, Name, Op, Sign, Var, VarOp};
 pub use pattern::{Apat, CommaPat, ConsPat, LeftPat, Pat};
 pub use program::{
     Associativity, BarConstr, CommaExport, CommaName, CommaVarOp, Constr, Data, Deriving, Export,
-    Fixity, ModuleHead, NextTop, Program, Synonym, Top,
+    Fixity, ModuleHead, NextTop, Synonym, Top, Tree,
 };
 pub use program_speller::spell;
 pub use token::{Token, Word};

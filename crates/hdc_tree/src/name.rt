@@ -12,7 +12,7 @@ pub struct Name {
 /// A variable.
 #[derive(Drop)]
 pub enum Var {
-    /// A name that begins with a small letter.
+    /// A name that begins with a small letter or `_`.
     Plain(Name),
     /// `(`, a name of symbols, `)`.
     Operator(At, Name, At),
@@ -23,7 +23,7 @@ pub enum Var {
 pub enum VarOp {
     /// A name of symbols.
     Symbol(Name),
-    /// A name that begins with a small letter, in backquotes.
+    /// A name that begins with a small letter or `_`, in backquotes.
     Quoted(At, Name, At),
 }
 

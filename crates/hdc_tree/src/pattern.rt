@@ -52,9 +52,9 @@ pub enum Apat {
     Nil(At, At),
     /// A pattern in parentheses.
     Paren(At, Boxed<Pat>, At),
-    /// Two to seven patterns in parentheses.
+    /// Patterns in parentheses, of which the grammar has two to seven.
     Tuple(At, Boxed<Pat>, Items<CommaPat>, At),
-    /// One pattern or more in brackets.
+    /// Patterns in brackets.
     List(At, Boxed<Pat>, Items<CommaPat>, At),
 }
 

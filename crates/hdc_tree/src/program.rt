@@ -9,7 +9,7 @@ use sqlite_items::Items;
 
 /// A program: its head, and top declarations in braces with `;` between them.
 #[derive(Drop)]
-pub struct Program {
+pub struct Tree {
     pub head: ModuleHead,
     pub open_at: At,
     pub first: Top,
@@ -113,10 +113,10 @@ pub struct Synonym {
     pub name: Name,
     pub params: Items<Name>,
     pub equal: At,
-    pub part: TypeExp,
+    pub meaning: TypeExp,
 }
 
-/// `infix`, `infixl` or `infixr`, a precedence, and operators.
+/// `infix`, `infixl` or `infixr`, a precedence, which the grammar has from 0 to 9, and operators.
 #[derive(Drop)]
 pub struct Fixity {
     pub at: At,

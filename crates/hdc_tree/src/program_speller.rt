@@ -2,31 +2,31 @@
 
 ghost use Rattle.std.specs.Prelude.{◌≡◌, OnOk, IfOk};
 ghost use Rattle.hdc_tree.specs.NameSpelling.{each_onto, small_onto};
-ghost use Rattle.hdc_tree.specs.ProgramSpelling.{bar_constr_onto, comma_export_onto, comma_name_onto, comma_var_op_onto, constr_onto, data_onto, deriving_onto, export_onto, fixity_key, fixity_onto, module_head_onto, next_top_onto, program_onto, spell, synonym_onto, top_onto};
+ghost use Rattle.hdc_tree.specs.ProgramSpelling.{bar_constr_onto, comma_export_onto, comma_name_onto, comma_var_op_onto, constr_onto, data_onto, deriving_onto, export_onto, fixity_key, fixity_onto, module_head_onto, next_top_onto, spell, synonym_onto, top_onto, tree_onto};
 
 use crate::expression_speller::put_rhs;
 use crate::head_speller::put_head;
 use crate::name::Name;
 use crate::program::{
     Associativity, BarConstr, CommaExport, CommaName, CommaVarOp, Constr, Data, Deriving, Export,
-    Fixity, ModuleHead, NextTop, Program, Synonym, Top,
+    Fixity, ModuleHead, NextTop, Synonym, Top, Tree,
 };
 use crate::speller::Speller;
 use crate::type_speller::{put_atypes, put_type_exp};
 use hdc_base::{Key, Tokens, Want, Word};
 use std::alloc::Global;
 
-/// The tokens of a program, each with its place.
-pub fn spell(alloc: Global, program: &Program) -> Result<Tokens, Want>
-    ensures { IfOk result (λ tokens. tokens ≡ spell program.now) }
+/// The tokens of a tree from the first to the last, each with its place.
+pub fn spell(alloc: Global, tree: &Tree) -> Result<Tokens, Want>
+    ensures { IfOk result (λ tokens. tokens ≡ spell tree.now) }
 {
     let mut out = Speller::new(alloc);
-    put_program(&mut out, program)?;
+    put_tree(&mut out, tree)?;
     out.tokens()
 }
 
-fn put_program(out: &mut Speller, part: &Program) -> Result<(), Want>
-    ensures { OnOk result (out.new ≡ program_onto part.now out.old) }
+fn put_tree(out: &mut Speller, part: &Tree) -> Result<(), Want>
+    ensures { OnOk result (out.new ≡ tree_onto part.now out.old) }
 {
     out.key(part.close_at, Key::KCloseBrace)?;
     put_next_tops(out, part.rest.as_slice())?;
@@ -161,7 +161,7 @@ fn put_comma_name(out: &mut Speller, part: &CommaName) -> Result<(), Want>
 fn put_synonym(out: &mut Speller, part: &Synonym) -> Result<(), Want>
     ensures { OnOk result (out.new ≡ synonym_onto part.now out.old) }
 {
-    put_type_exp(out, &part.part)?;
+    put_type_exp(out, &part.meaning)?;
     out.key(part.equal, Key::KEqual)?;
     put_params(out, part.params.as_slice())?;
     out.capital(&part.name)?;

@@ -42,7 +42,7 @@ pub enum Atype {
     Unit(At, At),
     /// A type in parentheses.
     Paren(At, Boxed<TypeExp>, At),
-    /// Two to seven types in parentheses.
+    /// Types in parentheses, of which the grammar has two to seven.
     Tuple(At, Boxed<TypeExp>, Items<CommaType>, At),
     /// A type in brackets.
     List(At, Boxed<TypeExp>, At),

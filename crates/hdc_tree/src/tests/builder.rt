@@ -220,7 +220,7 @@ impl Builder {
 
     // The words of a program of one declaration behind its `{`.
     pub fn tops(&mut self, open_at: At, first: Top) -> Result<String, Fail> {
-        let program = Program {
+        let program = Tree {
             head: ModuleHead::Absent,
             open_at,
             first,
@@ -230,7 +230,7 @@ impl Builder {
         self.words(&program)
     }
 
-    pub fn words(&self, program: &Program) -> Result<String, Fail> {
+    pub fn words(&self, program: &Tree) -> Result<String, Fail> {
         let tokens = spell(self.alloc, program)?;
         show(self.alloc, tokens.as_slice())
     }
@@ -285,7 +285,7 @@ impl Builder {
     }
 
     // `{ ; y = z }`
-    pub fn decls(&mut self) -> Result<Decls, Fail> {
+    pub fn decls(&mut self) -> Result<Block, Fail> {
         let open_at = self.at();
         let mut rest = self.none();
         let semicolon = self.at();
@@ -294,7 +294,7 @@ impl Builder {
             semicolon,
             decl: Decl::Equation(head, self.rhs("z")?),
         })?;
-        Ok(Decls {
+        Ok(Block {
             open_at,
             first: self.boxed(Decl::Empty)?,
             rest,
@@ -391,7 +391,7 @@ impl Builder {
     }
 
     // `{ i , j :: Int ; ( a , b ) = c }`
-    pub fn signature(&mut self) -> Result<Decls, Fail> {
+    pub fn signature(&mut self) -> Result<Block, Fail> {
         let open_at = self.at();
         let var = self.var("i")?;
         let mut vars = self.none();
@@ -407,7 +407,7 @@ impl Builder {
             semicolon,
             decl: self.binding()?,
         })?;
-        Ok(Decls {
+        Ok(Block {
             open_at,
             first,
             rest,
@@ -543,7 +543,7 @@ impl Builder {
     }
 
     // `module M ( f , T ) where { ; f = x }`
-    pub fn whole(&mut self) -> Result<Program, Fail> {
+    pub fn whole(&mut self) -> Result<Tree, Fail> {
         let head = self.head()?;
         let open_at = self.at();
         let mut rest = self.none();
@@ -553,7 +553,7 @@ impl Builder {
             semicolon,
             top: Top::Equation(equation, self.rhs("x")?),
         })?;
-        Ok(Program {
+        Ok(Tree {
             head,
             open_at,
             first: Top::Empty,

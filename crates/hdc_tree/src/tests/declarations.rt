@@ -157,7 +157,7 @@ fn types(rt: HostRuntime) -> Result<(), Fail> {
         name: b.name("S")?,
         params: b.names("a")?,
         equal: b.at(),
-        part: b.arrow()?,
+        meaning: b.arrow()?,
     });
     let text = b.tops(open_at, top)?;
     assert_eq!(rt; text.as_str(), " { type S a = T a ( b ) -> [ c ] }");
@@ -252,7 +252,7 @@ fn what_is_derived(rt: HostRuntime) -> Result<(), Fail> {
 #[test]
 fn short_heads_and_units(rt: HostRuntime) -> Result<(), Fail> {
     let mut b = Builder::new(rt.alloc());
-    let program = Program {
+    let program = Tree {
         head: ModuleHead::Plain(b.at(), b.name("M")?, b.at()),
         open_at: b.at(),
         first: Top::Empty,
