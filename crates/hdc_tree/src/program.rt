@@ -5,14 +5,14 @@ use crate::head::Head;
 use crate::name::{CommaVar, Name, Var, VarOp};
 use crate::type_tree::{Atype, TypeExp};
 use hdc_base::At;
-use sqlite_items::Items;
+use sqlite_items::{Boxed, Items};
 
 /// A program: its head, and top declarations in braces with `;` between them.
 #[derive(Drop)]
 pub struct Tree {
-    pub head: ModuleHead,
+    pub head: Boxed<ModuleHead>,
     pub open_at: At,
-    pub first: Top,
+    pub first: Boxed<Top>,
     pub rest: Items<NextTop>,
     pub close_at: At,
 }

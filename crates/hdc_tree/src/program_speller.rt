@@ -30,9 +30,9 @@ fn put_tree(out: &mut Speller, part: &Tree) -> Result<(), Want>
 {
     out.key(part.close_at, Key::KCloseBrace)?;
     put_next_tops(out, part.rest.as_slice())?;
-    put_top(out, &part.first)?;
+    put_top(out, part.first.get())?;
     out.key(part.open_at, Key::KOpenBrace)?;
-    put_module_head(out, &part.head)
+    put_module_head(out, part.head.get())
 }
 
 fn put_module_head(out: &mut Speller, part: &ModuleHead) -> Result<(), Want>
