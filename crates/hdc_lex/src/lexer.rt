@@ -1,8 +1,8 @@
 //! From a text to its lexemes.
 
-ghost use Rattle.std.specs.Prelude.{◌≡◌, ◌≤◌, ◌^◌, length};
+ghost use Rattle.std.specs.Prelude.{◌≡◌, ◌≤◌, ◌^◌, length, nat_le};
 ghost use Rattle.hdc_lex.specs.Characters.{offset_of};
-ghost use Rattle.hdc_lex.specs.Lexing.{is_minus, stop_of, Lexes};
+ghost use Rattle.hdc_lex.specs.Lexing.{is_minus, most_lexemes, stop_of, Lexes};
 ghost use Rattle.hdc_lex.specs.Numbers.{greatest_number};
 ghost use Rattle.hdc_lex.specs.Place.{ForAtMost};
 ghost use Rattle.hdc_lex.specs.declared.lexer.LexStop.TheVariants as stop;
@@ -71,7 +71,7 @@ pub fn lex(alloc: Global, text: &[u8], form: Form) -> Result<Tokens, LexStop>
                     Piece::White => {}
                     Piece::Comment => {}
                     Piece::Lexeme(word) => {
-                        if tokens.len() >= 131_072 {
+                        if is_full(&tokens) {
                             return Err(LexStop::Tokens(at));
                         }
                         minus = is_minus(&word);
@@ -85,6 +85,13 @@ pub fn lex(alloc: Global, text: &[u8], form: Form) -> Result<Tokens, LexStop>
         }
     }
     Ok(tokens)
+}
+
+// Whether a text may have no more lexemes.
+fn is_full(tokens: &Tokens) -> bool
+    ensures { result ≡ nat_le most_lexemes (length tokens.now) }
+{
+    tokens.len() >= 131_072
 }
 
 fn greatest_number(form: Form, minus: bool) -> u64
