@@ -4,4 +4,10 @@ pub mod Programs
 pub mod Lists
 pub mod PatternEquations
 pub mod TypeEquations
+pub mod PatternFormed
+pub mod PatternCases
+pub mod TypeFormed
+pub mod TypeCases
 pub mod ExpressionEquations
+pub mod ExpressionFormed
+pub mod ExpressionCases

@@ -1,7 +1,5 @@
 -- How expressions and declarations are spelled, one equation for each production.
-use Rattle.std.specs.Prelude.{ℕ, List, [], ◌∷◌}
 use Rattle.hdc_base.specs.declared.token.Key.TheVariants as key
-use Rattle.hdc_base.specs.declared.token.Word.TheVariants as word
 use Rattle.hdc_tree.specs.declared.expression.Aexp.{Aexp, Aexp-F, fold-Aexp}
 use Rattle.hdc_tree.specs.declared.expression.Alt.{Alt, Alt-F, fold-Alt}
 use Rattle.hdc_tree.specs.declared.expression.Decl.{Decl, Decl-F, fold-Decl}
@@ -21,7 +19,7 @@ use Rattle.hdc_tree.specs.declared.expression.Exp.{Exp, Exp-F, fold-Exp}
 use Rattle.hdc_tree.specs.declared.expression.Link.{Link, Link-F, fold-Link}
 use Rattle.hdc_tree.specs.declared.expression.NextAlt.{NextAlt, NextAlt-F, fold-NextAlt}
 use Rattle.hdc_tree.specs.declared.expression.NextDecl.{NextDecl, NextDecl-F, fold-NextDecl}
-use Rattle.hdc_tree.specs.NameSpelling.{Puts, word_onto, key_onto, small_onto, capital_onto, minus_onto, literal_onto, var_onto, var_op_onto, op_onto, all_onto, each_onto}
+use Rattle.hdc_tree.specs.NameSpelling.{Puts, key_onto, capital_onto, literal_onto, var_onto, op_onto, all_onto, each_onto}
 use Rattle.hdc_tree.specs.NameSpelling.{sign_onto, comma_var_onto}
 use Rattle.hdc_tree.specs.PatternSpelling.{apat_onto, pat_onto}
 use Rattle.hdc_tree.specs.TypeSpelling.{type_exp_onto}

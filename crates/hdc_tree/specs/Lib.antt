@@ -7,6 +7,12 @@ pub mod TypeSpelling
 pub mod HeadSpelling
 pub mod ExpressionSpelling
 pub mod ProgramSpelling
+pub mod Form
+pub mod PatternForm
+pub mod TypeForm
+pub mod HeadForm
+pub mod ExpressionForm
+pub mod ProgramForm
 pub mod Program
 pub mod Meaning
 pub mod Reading

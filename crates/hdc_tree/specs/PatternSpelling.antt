@@ -1,5 +1,4 @@
 -- How patterns are spelled, one equation for each production.
-use Rattle.std.specs.Prelude.{ℕ, List, [], ◌∷◌}
 use Rattle.hdc_base.specs.declared.token.Key.TheVariants as key
 use Rattle.hdc_base.specs.declared.token.Word.TheVariants as word
 use Rattle.hdc_tree.specs.declared.pattern.Apat.{Apat, Apat-F, fold-Apat}
@@ -7,7 +6,7 @@ use Rattle.hdc_tree.specs.declared.pattern.LeftPat.{LeftPat, LeftPat-F, fold-Lef
 use Rattle.hdc_tree.specs.declared.pattern.CommaPat.{CommaPat, CommaPat-F, fold-CommaPat}
 use Rattle.hdc_tree.specs.declared.pattern.ConsPat.{ConsPat, ConsPat-F, fold-ConsPat}
 use Rattle.hdc_tree.specs.declared.pattern.Pat.{Pat, Pat-F, fold-Pat}
-use Rattle.hdc_tree.specs.NameSpelling.{Puts, word_onto, key_onto, small_onto, capital_onto, minus_onto, literal_onto, var_onto, var_op_onto, op_onto, all_onto, each_onto}
+use Rattle.hdc_tree.specs.NameSpelling.{Puts, word_onto, key_onto, small_onto, capital_onto, minus_onto, literal_onto, all_onto}
 
 abbrev pub apat_step : Apat-F Puts Puts Puts Puts Puts → Puts
 apat_step (Apat-F.Var name) k = small_onto name k

@@ -1,13 +1,11 @@
 -- How types are spelled, one equation for each production.
-use Rattle.std.specs.Prelude.{ℕ, List, [], ◌∷◌}
 use Rattle.hdc_base.specs.declared.token.Key.TheVariants as key
-use Rattle.hdc_base.specs.declared.token.Word.TheVariants as word
 use Rattle.hdc_tree.specs.declared.type_tree.Atype.{Atype, Atype-F, fold-Atype}
 use Rattle.hdc_tree.specs.declared.type_tree.Btype.{Btype, Btype-F, fold-Btype}
 use Rattle.hdc_tree.specs.declared.type_tree.ArrowType.{ArrowType, ArrowType-F, fold-ArrowType}
 use Rattle.hdc_tree.specs.declared.type_tree.CommaType.{CommaType, CommaType-F, fold-CommaType}
 use Rattle.hdc_tree.specs.declared.type_tree.TypeExp.{TypeExp, TypeExp-F, fold-TypeExp}
-use Rattle.hdc_tree.specs.NameSpelling.{Puts, word_onto, key_onto, small_onto, capital_onto, minus_onto, literal_onto, var_onto, var_op_onto, op_onto, all_onto, each_onto}
+use Rattle.hdc_tree.specs.NameSpelling.{Puts, key_onto, small_onto, capital_onto, all_onto}
 
 abbrev pub atype_step : Atype-F Puts Puts Puts Puts Puts → Puts
 atype_step (Atype-F.Con name) k = capital_onto name k

@@ -1,0 +1,10 @@
+pub mod Opened
+pub mod ExpressionWords
+pub mod ExpressionBalanced
+pub mod Apart
+pub mod ExpressionLooks
+pub mod ExpressionStarts
+pub mod ExpressionAgain
+pub mod ExpressionAmple
+pub mod NestedPatterns
+pub mod Chains

@@ -1,0 +1,4 @@
+pub mod ExpressionReader
+pub mod DeclarationReader
+pub mod Nested
+pub mod Nests

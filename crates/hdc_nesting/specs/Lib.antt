@@ -1,0 +1,4 @@
+pub mod Roles
+pub mod Nesting
+pub mod Counts
+pub mod Standing

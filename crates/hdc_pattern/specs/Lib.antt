@@ -1,0 +1,2 @@
+pub mod PatternReader
+pub mod TypeReader

@@ -1,0 +1,10 @@
+pub mod Tests
+pub mod Good
+pub mod Local
+pub mod Meets
+pub mod Balanced
+pub mod Ample
+pub mod Turns
+pub mod Steps
+pub mod NameRules
+pub mod Keeping

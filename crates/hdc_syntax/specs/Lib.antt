@@ -1,0 +1,5 @@
+pub mod Parser
+pub mod Results
+pub mod Regular
+pub mod Words
+pub mod Names
