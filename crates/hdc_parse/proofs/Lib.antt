@@ -6,3 +6,5 @@ pub mod ProgramAmple
 pub mod Whole
 pub mod Fitting
 pub mod OneSpelling
+pub mod Exact
+pub mod ExactRules

@@ -1,1 +1,2 @@
 pub mod ProgramReader
+pub mod Exact
