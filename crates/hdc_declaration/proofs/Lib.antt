@@ -6,3 +6,4 @@ pub mod DeclarationAgain
 pub mod DeclarationAmple
 pub mod NestedParsers
 pub mod NestedAmple
+pub mod Filled

@@ -8,3 +8,7 @@ pub mod Fitting
 pub mod OneSpelling
 pub mod Exact
 pub mod ExactRules
+pub mod OneAnswer
+pub mod Answering
+pub mod NestedTypes
+pub mod Places

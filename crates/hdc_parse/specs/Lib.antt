@@ -1,2 +1,3 @@
 pub mod ProgramReader
 pub mod Exact
+pub mod Answer
