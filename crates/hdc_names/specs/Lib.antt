@@ -1,0 +1,3 @@
+pub mod OperatorTrees
+pub mod Grouping
+pub mod Chain
