@@ -18,9 +18,9 @@ use Rattle.hdc_syntax.proofs.Good.{Good, bind_ok, bind_err, ok_same}
 use Rattle.hdc_syntax.proofs.Local.{Within, token_stop}
 use Rattle.hdc_syntax.proofs.Steps.{same_key, good_key, good_return}
 use Rattle.hdc_syntax.proofs.Balanced.{key_role, word_role, ahead_by, ahead, ahead_shrinks, front_ahead, flat_word, flat_of}
-use Rattle.hdc_pattern.specs.PatternReader.{pat}
-use Rattle.hdc_pattern.proofs.PatternBalanced.{pat_word}
-use Rattle.hdc_pattern.proofs.PatternWords.{good_pat}
+use Rattle.hdc_syntax.specs.PatternReader.{pat}
+use Rattle.hdc_syntax.proofs.PatternBalanced.{pat_word}
+use Rattle.hdc_syntax.proofs.PatternWords.{good_pat}
 use Rattle.hdc_expression.specs.declared.qualifier.QualHead.{QualHead}
 use Rattle.hdc_expression.specs.declared.qualifier.QualHead.TheVariants as h
 use Rattle.hdc_expression.specs.ExpressionReader.{Inner, ends_qual, whole, generator, condition}

@@ -45,7 +45,7 @@ use Rattle.hdc_syntax.specs.Names.{starts_op, quoted_op}
 use Rattle.hdc_syntax.proofs.NameRules.{always, again_op, op_starts}
 use Rattle.hdc_syntax.proofs.Tests.{both, first_part, second_part, not_true, not_both}
 use Rattle.hdc_syntax.proofs.Meets.{Meets, meets_return, meets_deep, meets_then, meets_yes, meets_no, meets_first, meets_second, Items, may_all, meets_many, meets_at_most}
-use Rattle.hdc_pattern.proofs.PatternAgain.{not_key, few_more, apats_no_at, again_apats, again_pat, starts_pat, pat_starts}
+use Rattle.hdc_syntax.proofs.PatternAgain.{not_key, few_more, apats_no_at, again_apats, again_pat, starts_pat, pat_starts}
 use Rattle.hdc_expression.specs.declared.qualifier.QualHead.{QualHead}
 use Rattle.hdc_expression.specs.declared.qualifier.QualHead.TheVariants as h
 use Rattle.hdc_expression.specs.ExpressionReader.{Opened, Inner, starts_aexp, ends_qual, made, linked, whole, comma_exp, comma_exps, tuple_exp, parens_behind, inside, right_section, cons_in, symbol_in, parens_by, parens, generator, condition, qual_behind, let_qual, qual, comma_qual, comma_quals, range, comprehension, members, brackets_behind, brackets, aexp, aexps, apply, lambda, let_in, choice, last_op, cases, signed, after_op, operands, chain_by, chain, exp_level}

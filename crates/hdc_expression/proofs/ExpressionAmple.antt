@@ -36,10 +36,10 @@ use Rattle.hdc_syntax.proofs.NameRules.{always, good_op, good_quoted_op, op_star
 use Rattle.hdc_syntax.proofs.Balanced.{Balanced, BalancedWord, Balances, word_by, put_free, put_none, put_both, put_divide, put_op}
 use Rattle.hdc_syntax.proofs.Keeping.{keeps_here, keeps_floor, spelled_balanced}
 use Rattle.hdc_syntax.proofs.Ample.{here, floor, Keeps, Free, free_pure, free_refuse, free_then, free_token, free_look, free_if, free_last, Ample, ample_free, ample_less, ample_floor, ample_then, ample_look, ample_if, ample_either, nonempty}
-use Rattle.hdc_pattern.proofs.AmpleSteps.{each_word, ample_last, ample_first, then_here, then_floor, past_key, past_comma, past_counting, past_counting_floor, past_open, past_symbol, many_here, many_floor, members_floor, free_quoted_op, free_op}
-use Rattle.hdc_pattern.proofs.PatternWords.{good_apats}
-use Rattle.hdc_pattern.proofs.PatternBalanced.{apat_word, pat_word}
-use Rattle.hdc_pattern.proofs.PatternAmple.{ample_apats, ample_pat}
+use Rattle.hdc_syntax.proofs.AmpleSteps.{each_word, ample_last, ample_first, then_here, then_floor, past_key, past_comma, past_counting, past_counting_floor, past_open, past_symbol, many_here, many_floor, members_floor, free_quoted_op, free_op}
+use Rattle.hdc_syntax.proofs.PatternWords.{good_apats}
+use Rattle.hdc_syntax.proofs.PatternBalanced.{apat_word, pat_word}
+use Rattle.hdc_syntax.proofs.PatternAmple.{ample_apats, ample_pat}
 use Rattle.hdc_expression.specs.declared.qualifier.QualHead.{QualHead}
 use Rattle.hdc_expression.specs.declared.qualifier.QualHead.TheVariants as h
 use Rattle.hdc_expression.specs.ExpressionReader.{Opened, Inner, starts_aexp, ends_qual, made, linked, whole, comma_exp, comma_exps, tuple_exp, parens_behind, inside, right_section, cons_in, symbol_before, symbol_in, quoted_in, parens_by, parens, generator, condition, qual_head, qual_behind, let_exp, let_qual, qual, comma_qual, comma_quals, range, comprehension, members, brackets_by, brackets_behind, brackets, aexp_by, aexp, aexps, apply, lambda, let_in, choice, last_op, cases, signed, after_op, operands, chain_by, chain, exp_level}

@@ -34,8 +34,8 @@ use Rattle.hdc_tree.specs.ExpressionSpelling.{aexp_onto, alt_onto, decl_onto, li
 use Rattle.hdc_tree.specs.HeadSpelling.{head_onto}
 use Rattle.hdc_tree.proofs.ExpressionEquations.{aexp_var, aexp_con, aexp_literal, aexp_unit, aexp_nil, aexp_cons, aexp_paren, aexp_tuple, aexp_list, aexp_left_section, aexp_right_section, alt_blank, alt_arrow, alt_guarded, decl_empty, decl_signature, decl_equation, decl_binding, list_exp_members, list_exp_range, list_exp_comprehension, operand_applied, operand_lambda, operand_let, operand_if, operand_case, qual_generator, qual_condition, qual_local, rhs_equal, rhs_guards, where_absent, where_present, alts_made, apply_made, arrow_guard_made, block_made, comma_exp_made, comma_qual_made, equal_guard_made, exp_made, link_made, next_alt_made, next_decl_made}
 use Rattle.hdc_syntax.proofs.Balanced.{BalancedWord, word_by, put, put_free, put_none, put_both, put_key, put_divide, put_within, put_each, put_all, put_capital, put_literal, put_sign, put_var, put_var_op, put_op, comma_var_word}
-use Rattle.hdc_pattern.proofs.PatternBalanced.{apat_word, pat_word}
-use Rattle.hdc_pattern.proofs.TypeBalanced.{type_exp_word}
+use Rattle.hdc_syntax.proofs.PatternBalanced.{apat_word, pat_word}
+use Rattle.hdc_syntax.proofs.TypeBalanced.{type_exp_word}
 
 -- ---- what equations define
 

@@ -28,7 +28,7 @@ use Rattle.hdc_syntax.specs.Names.{starts_op}
 use Rattle.hdc_syntax.proofs.Local.{Local, Within, local_pure, local_refuse, local_deep, local_either, local_many_from, local_at_most_from}
 use Rattle.hdc_syntax.proofs.Steps.{local_then, local_key, local_small, local_capital, local_symbol, local_minus, local_literal, local_look, local_if}
 use Rattle.hdc_syntax.proofs.NameRules.{local_op, local_quoted_op}
-use Rattle.hdc_pattern.proofs.PatternLooks.{local_pat, local_apats}
+use Rattle.hdc_syntax.proofs.PatternLooks.{local_pat, local_apats}
 use Rattle.hdc_expression.specs.declared.qualifier.QualHead.{QualHead}
 use Rattle.hdc_expression.specs.declared.qualifier.QualHead.TheVariants as head
 use Rattle.hdc_expression.specs.ExpressionReader.{Opened, Inner, starts_aexp, ends_qual, made, linked, whole, comma_exp, comma_exps, tuple_exp, paren_exp, left_section, parens_behind, inside, right_section, unit_exp, cons_exp, cons_in, operator_name, symbol_before, symbol_in, quoted_in, parens_by, parens, generator, condition, qual_head, qual_behind, let_exp, let_qual, qual, comma_qual, comma_quals, range, comprehension, members, brackets_by, brackets_behind, nil_exp, brackets, name_exp, con_exp, literal_exp, aexp_by, aexp, aexps, apply, lambda, let_in, choice, last_op, cases, signed, after_op, operands, chain_by, chain, exp_level}

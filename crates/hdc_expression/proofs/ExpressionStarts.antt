@@ -33,7 +33,7 @@ use Rattle.hdc_syntax.specs.Words.{is, is_minus, is_minus_word, is_symbol, is_sy
 use Rattle.hdc_syntax.specs.Names.{starts_op}
 use Rattle.hdc_syntax.proofs.Steps.{token_of}
 use Rattle.hdc_syntax.proofs.Tests.{not_true}
-use Rattle.hdc_pattern.proofs.PatternAgain.{not_key}
+use Rattle.hdc_syntax.proofs.PatternAgain.{not_key}
 use Rattle.hdc_expression.specs.ExpressionReader.{made, starts_aexp, ends_qual}
 use Rattle.hdc_expression.proofs.Opened.{tail, ends_exp, Follows}
 

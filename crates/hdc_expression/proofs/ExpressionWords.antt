@@ -41,9 +41,9 @@ use Rattle.hdc_syntax.proofs.Good.{Good, Spells, Some_of, good_refuse, good_deep
 use Rattle.hdc_syntax.proofs.Steps.{some_name, good_then, good_key, good_small, good_capital, good_symbol, good_minus, good_literal, good_look, good_if, good_return}
 use Rattle.hdc_syntax.proofs.NameRules.{always, good_op}
 use Rattle.hdc_syntax.proofs.Tests.{both}
-use Rattle.hdc_pattern.proofs.Several.{good_many}
-use Rattle.hdc_pattern.proofs.Several as several
-use Rattle.hdc_pattern.proofs.PatternWords.{good_pat, good_apats}
+use Rattle.hdc_syntax.proofs.Several.{good_many}
+use Rattle.hdc_syntax.proofs.Several as several
+use Rattle.hdc_syntax.proofs.PatternWords.{good_pat, good_apats}
 use Rattle.hdc_expression.specs.declared.qualifier.QualHead.{QualHead}
 use Rattle.hdc_expression.specs.declared.qualifier.QualHead.TheVariants as head
 use Rattle.hdc_expression.specs.ExpressionReader.{Opened, Inner, starts_aexp, ends_qual, made, linked, whole, comma_exp, comma_exps, tuple_exp, paren_exp, left_section, parens_behind, inside, right_section, unit_exp, cons_exp, cons_in, operator_name, symbol_before, symbol_in, quoted_in, parens_by, parens, generator, condition, qual_head, qual_behind, let_exp, let_qual, qual, comma_qual, comma_quals, range, comprehension, members, brackets_by, brackets_behind, nil_exp, brackets, name_exp, con_exp, literal_exp, aexp_by, aexp, aexps, apply, lambda, let_in, choice, last_op, cases, signed, after_op, operands, chain_by, chain, exp_level}

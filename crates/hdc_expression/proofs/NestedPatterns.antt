@@ -1,7 +1,7 @@
 -- Patterns and types nest alike at every depth.
 use Rattle.std.proofs.Common.{◌≡◌, ℕ, zero, suc, refl}
-use Rattle.hdc_pattern.specs.PatternReader.{apat}
-use Rattle.hdc_pattern.specs.TypeReader.{atype}
+use Rattle.hdc_syntax.specs.PatternReader.{apat}
+use Rattle.hdc_syntax.specs.TypeReader.{atype}
 use Rattle.hdc_expression.specs.Nested.{nested}
 
 pub nested_apat : (turns depth : ℕ) → (nested turns depth).apat ≡ apat turns depth

@@ -32,8 +32,8 @@ use Rattle.hdc_tree.specs.ExpressionForm.{filled_alt, filled_next_alt}
 use Rattle.hdc_syntax.specs.Parser.{Parser, ◌>>=◌, ◌>>◌, pure, refuse, too_deep, peek, many_from}
 use Rattle.hdc_syntax.specs.Words.{fixed, is, small, is_small, capital, is_capital, symbol, is_symbol, is_minus, is_minus_text, number}
 use Rattle.hdc_syntax.specs.Names.{starts_var_op, var_op, var}
-use Rattle.hdc_pattern.specs.PatternReader.{starts_apat, apats, applied_pat, negative_pat, cons_pat, pat_behind, pat, parens_behind}
-use Rattle.hdc_pattern.specs.TypeReader.{type_exp}
+use Rattle.hdc_syntax.specs.PatternReader.{starts_apat, apats, applied_pat, negative_pat, cons_pat, pat_behind, pat, parens_behind}
+use Rattle.hdc_syntax.specs.TypeReader.{type_exp}
 use Rattle.hdc_expression.specs.ExpressionReader.{Inner, whole}
 
 -- the token ends a member of a block

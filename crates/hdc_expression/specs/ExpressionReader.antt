@@ -30,7 +30,7 @@ use Rattle.hdc_tree.specs.declared.expression.Qual.TheVariants as q
 use Rattle.hdc_syntax.specs.Parser.{Parser, ◌>>=◌, ◌>>◌, pure, refuse, too_deep, peek, either, many_from, at_most_from}
 use Rattle.hdc_syntax.specs.Words.{fixed, is, small, is_small, capital, is_capital, symbol, is_symbol, minus, is_minus, is_minus_text, literal, is_literal}
 use Rattle.hdc_syntax.specs.Names.{starts_op, op, quoted_op}
-use Rattle.hdc_pattern.specs.PatternReader.{pat, apats}
+use Rattle.hdc_syntax.specs.PatternReader.{pat, apats}
 use Rattle.hdc_expression.specs.declared.qualifier.QualHead.{QualHead}
 use Rattle.hdc_expression.specs.declared.qualifier.QualHead.TheVariants as h
 

@@ -1,8 +1,8 @@
 -- The parsers of what nests, by how deep it may nest.
 use Rattle.std.specs.Prelude.{ℕ, zero, suc, Bool}
 use Rattle.hdc_syntax.specs.Parser.{too_deep}
-use Rattle.hdc_pattern.specs.PatternReader.{apat}
-use Rattle.hdc_pattern.specs.TypeReader.{atype}
+use Rattle.hdc_syntax.specs.PatternReader.{apat}
+use Rattle.hdc_syntax.specs.TypeReader.{atype}
 use Rattle.hdc_expression.specs.ExpressionReader.{Inner, exp_level}
 use Rattle.hdc_expression.specs.DeclarationReader.{block, alts}
 

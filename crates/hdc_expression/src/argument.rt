@@ -68,6 +68,7 @@ impl<
         Err(Stop::Deep)
     }
 
+    /// A function and its arguments, or one expression alone.
     #[tactic(auto, unfolding(crate::specs::ExpressionReader::apply))]
     pub(crate) fn apply(&self, tokens: &mut Cursor<'_>) -> Result<Apply, Stop>
         requires { Nests self.now.turns self.now.depth (E.pre self.now.exp) (E.post self.now.exp) (B.pre self.now.block) (B.post self.now.block) (A.pre self.now.alts) (A.post self.now.alts) }

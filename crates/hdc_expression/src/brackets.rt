@@ -83,6 +83,7 @@ impl<
         self.members(tokens, open_at, first)
     }
 
+    /// A list in brackets.
     #[tactic(auto, unfolding(crate::specs::ExpressionReader::brackets))]
     pub(crate) fn brackets(&self, tokens: &mut Cursor<'_>) -> Result<Aexp, Stop>
         requires { Nests self.now.turns self.now.depth (E.pre self.now.exp) (E.post self.now.exp) (B.pre self.now.block) (B.post self.now.block) (A.pre self.now.alts) (A.post self.now.alts) }

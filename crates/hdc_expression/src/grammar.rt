@@ -1,7 +1,7 @@
 //! The parser of what nests in a rule, by which the rules are given.
 
 ghost use Rattle.hdc_syntax.specs.Results.{Reads};
-ghost use Rattle.hdc_pattern.specs.PatternReader as patterns;
+ghost use Rattle.hdc_syntax.specs.PatternReader as patterns;
 ghost use Rattle.hdc_expression.specs.ExpressionReader as reader;
 ghost use Rattle.hdc_expression.specs.Nested.{nested};
 ghost use Rattle.hdc_expression.specs.Nests.{Nests};
@@ -63,7 +63,7 @@ impl<
     pub fn apat(&self, tokens: &mut Cursor<'_>) -> Result<Apat, Stop>
         ensures { Reads ((nested self.now.turns self.now.depth).apat tokens.old.rest.now) result tokens.new.rest.now }
     {
-        hdc_pattern::apat(tokens, self.turns, self.depth)
+        hdc_syntax::apat(tokens, self.turns, self.depth)
     }
 
     /// Patterns that may be arguments, as many as there are.
@@ -71,7 +71,7 @@ impl<
     pub fn apats(&self, tokens: &mut Cursor<'_>) -> Result<Items<Apat>, Stop>
         ensures { Reads (patterns.apats self.now.turns (nested self.now.turns self.now.depth).apat tokens.old.rest.now) result tokens.new.rest.now }
     {
-        hdc_pattern::apats(tokens, self.turns, self.depth)
+        hdc_syntax::apats(tokens, self.turns, self.depth)
     }
 
     /// A pattern.
@@ -79,7 +79,7 @@ impl<
     pub fn pat(&self, tokens: &mut Cursor<'_>) -> Result<Pat, Stop>
         ensures { Reads (patterns.pat self.now.turns (nested self.now.turns self.now.depth).apat tokens.old.rest.now) result tokens.new.rest.now }
     {
-        hdc_pattern::pat(tokens, self.turns, self.depth)
+        hdc_syntax::pat(tokens, self.turns, self.depth)
     }
 
     /// An expression that no operator follows.

@@ -17,6 +17,7 @@ impl<
     B: Fn(&mut Cursor<'_>, usize, usize) -> Result<Block, Stop>,
     A: Fn(&mut Cursor<'_>, usize, usize) -> Result<Alts, Stop>,
 > Grammar<E, B, A> {
+    /// `\`, patterns, `->` and an expression, behind the links of its chain.
     #[tactic(auto, unfolding(crate::specs::ExpressionReader::lambda))]
     pub(crate) fn lambda(
         &self,
@@ -37,6 +38,7 @@ impl<
         Ok((Expression { links, sign, last }, end))
     }
 
+    /// `let`, declarations, `in` and an expression, behind the links of its chain.
     #[tactic(auto, unfolding(crate::specs::ExpressionReader::let_in))]
     pub(crate) fn let_in(
         &self,
@@ -56,6 +58,7 @@ impl<
         Ok((Expression { links, sign, last }, end))
     }
 
+    /// `if`, `then` and `else`, each with an expression, behind the links of its chain.
     #[tactic(auto, unfolding(crate::specs::ExpressionReader::choice))]
     pub(crate) fn choice(
         &self,
@@ -88,6 +91,7 @@ impl<
         Ok(None)
     }
 
+    /// `case`, an expression, `of` and alternatives, behind the links of its chain.
     #[tactic(auto, unfolding(crate::specs::ExpressionReader::cases))]
     pub(crate) fn cases(
         &self,

@@ -162,6 +162,7 @@ impl<
         self.right_section(tokens, open_at, op)
     }
 
+    /// What stands in parentheses.
     #[tactic(auto, unfolding(crate::specs::ExpressionReader::parens))]
     pub(crate) fn parens(&self, tokens: &mut Cursor<'_>) -> Result<Aexp, Stop>
         requires { Nests self.now.turns self.now.depth (E.pre self.now.exp) (E.post self.now.exp) (B.pre self.now.block) (B.post self.now.block) (A.pre self.now.alts) (A.post self.now.alts) }

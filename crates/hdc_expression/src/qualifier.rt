@@ -114,6 +114,7 @@ impl<
         Ok(Qual::Local(at, decls))
     }
 
+    /// A qualifier.
     #[tactic(auto, unfolding(crate::specs::ExpressionReader::qual))]
     pub(crate) fn qual(&self, tokens: &mut Cursor<'_>) -> Result<Qual, Stop>
         requires { Nests self.now.turns self.now.depth (E.pre self.now.exp) (E.post self.now.exp) (B.pre self.now.block) (B.post self.now.block) (A.pre self.now.alts) (A.post self.now.alts) }

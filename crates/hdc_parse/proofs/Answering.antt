@@ -195,3 +195,9 @@ syntax_known n e = cc
 
 pub syntax_read : (o : Outcome Tree) (s : Stop) (n : ℕ) → (s ≢ Want → o ≡ Err s) → s ≡ Syntax n → o ≡ Err (Syntax n)
 syntax_read o s n h e = h (λ z. syntax_known n (sym e ∙ z)) ∙ ap (λ z. Err z) e
+
+deep_known : Deep ≢ Want
+deep_known e = cc
+
+pub deep_read : (o : Outcome Tree) (s : Stop) → (s ≢ Want → o ≡ Err s) → s ≡ Deep → o ≡ Err Deep
+deep_read o s h e = h (λ z. deep_known (sym e ∙ z)) ∙ ap (λ z. Err z) e

@@ -12,3 +12,12 @@ pub mod OneAnswer
 pub mod Answering
 pub mod NestedTypes
 pub mod Places
+pub mod DeclarationWords
+pub mod DeclarationLooks
+pub mod DeclarationStarts
+pub mod AlternativeAgain
+pub mod DeclarationAgain
+pub mod DeclarationAmple
+pub mod NestedParsers
+pub mod NestedAmple
+pub mod Filled

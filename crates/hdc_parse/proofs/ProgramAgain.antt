@@ -55,18 +55,18 @@ use Rattle.hdc_syntax.specs.Names.{operator_var, var}
 use Rattle.hdc_syntax.proofs.Meets.{Meets, meets_return, meets_then, meets_yes, meets_no, Items, may_all, meets_many}
 use Rattle.hdc_syntax.proofs.NameRules.{always, again_var_op}
 use Rattle.hdc_syntax.proofs.Tests.{first_part, second_part, not_true}
-use Rattle.hdc_pattern.specs.TypeReader.{starts_atype}
-use Rattle.hdc_pattern.specs.PatternReader.{starts_apat}
-use Rattle.hdc_pattern.proofs.PatternAgain.{not_key, apat_starts}
-use Rattle.hdc_pattern.proofs.TypeAgain.{ends_btype, type_ends_btype, again_atypes, again_type_exp}
+use Rattle.hdc_syntax.specs.TypeReader.{starts_atype}
+use Rattle.hdc_syntax.specs.PatternReader.{starts_apat}
+use Rattle.hdc_syntax.proofs.PatternAgain.{not_key, apat_starts}
+use Rattle.hdc_syntax.proofs.TypeAgain.{ends_btype, type_ends_btype, again_atypes, again_type_exp}
 use Rattle.hdc_expression.specs.declared.qualifier.QualHead.{QualHead}
 use Rattle.hdc_expression.specs.ExpressionReader.{Inner, ends_qual, generator}
 use Rattle.hdc_expression.specs.DeclarationReader.{ends_member}
 use Rattle.hdc_expression.specs.Nested.{nested}
 use Rattle.hdc_expression.proofs.Opened.{GoodInner, MeetsInner}
 use Rattle.hdc_expression.proofs.Apart.{no_generator}
-use Rattle.hdc_declaration.proofs.DeclarationStarts.{each_always, member_ends_type}
-use Rattle.hdc_declaration.proofs.DeclarationAgain.{again_stated_signature, again_stated_equation}
+use Rattle.hdc_parse.proofs.DeclarationStarts.{each_always, member_ends_type}
+use Rattle.hdc_parse.proofs.DeclarationAgain.{again_stated_signature, again_stated_equation}
 use Rattle.hdc_parse.specs.ProgramReader.{export, comma_export, precedence, comma_name, comma_var_op, top_layer, comma_exports, exporting, named_head, module_head, params, constr, bar_constr, bar_constrs, comma_names, derived_list, derived_parens, derived, data_top, synonym_top, comma_var_ops, fixity_top, stated_top, top_by, top, next_top, next_tops, tree, program}
 
 -- ---- the token behind a top declaration, which ends a member, begins no type

@@ -54,14 +54,14 @@ use Rattle.hdc_syntax.proofs.Meets.{IsLimit}
 use Rattle.hdc_syntax.proofs.NameRules.{always, good_var_op}
 use Rattle.hdc_syntax.proofs.Keeping.{keeps_outer, spelled_balanced}
 use Rattle.hdc_syntax.proofs.Ample.{here, floor, outer, Free, free_pure, free_refuse, free_then, free_token, free_look, free_if, free_last, Ample, ample_free, ample_floor, ample_look, ample_if, ample_many, nonempty}
-use Rattle.hdc_pattern.proofs.AmpleSteps.{each_word, ample_last, then_here, then_floor, past_key, past_comma, past_open, past_open_floor, past_capital, many_floor, free_var, free_var_op}
-use Rattle.hdc_pattern.proofs.TypeAmple.{ample_atypes, ample_type_exp}
+use Rattle.hdc_syntax.proofs.AmpleSteps.{each_word, ample_last, then_here, then_floor, past_key, past_comma, past_open, past_open_floor, past_capital, many_floor, free_var, free_var_op}
+use Rattle.hdc_syntax.proofs.TypeAmple.{ample_atypes, ample_type_exp}
 use Rattle.hdc_expression.specs.ExpressionReader.{Inner}
 use Rattle.hdc_expression.specs.DeclarationReader.{ends_member}
 use Rattle.hdc_expression.specs.Nested.{nested}
 use Rattle.hdc_expression.proofs.Opened.{GoodInner}
 use Rattle.hdc_expression.proofs.ExpressionAmple.{AmpleInner}
-use Rattle.hdc_declaration.proofs.DeclarationAmple.{ample_stated}
+use Rattle.hdc_parse.proofs.DeclarationAmple.{ample_stated}
 use Rattle.hdc_parse.specs.ProgramReader.{export, comma_export, precedence_of, comma_name, comma_var_op, top_layer, top_of, comma_exports, exporting, named_head, module_head, params, constr, bar_constr, bar_constrs, comma_names, derived_list, derived_parens, derived, data_top, synonym_top, comma_var_ops, fixity_top, top_by, top, next_top, next_tops, tree, at_end, program}
 use Rattle.hdc_parse.proofs.ProgramWords.{good_export, good_comma_export, good_precedence, good_small_name, good_comma_name, good_comma_var_op, good_module_head, good_params, good_constr, good_bar_constr, good_bar_constrs, good_top, good_next_top}
 use Rattle.hdc_parse.proofs.ProgramBalanced.{small_word, comma_name_word, var_op_word, comma_var_op_word, precedence_word, export_word, comma_export_word, module_head_word, constr_word, bar_constr_word, top_word, next_top_word}

@@ -28,7 +28,7 @@ use Rattle.hdc_tree.specs.declared.program.Tree.{Tree}
 use Rattle.hdc_tree.specs.NameSpelling.{small_onto, var_op_onto}
 use Rattle.hdc_tree.specs.ProgramSpelling.{export_onto, comma_export_onto, module_head_onto, constr_onto, bar_constr_onto, comma_name_onto, deriving_onto, data_onto, synonym_onto, fixity_key, comma_var_op_onto, fixity_onto, top_onto, next_top_onto, tree_onto}
 use Rattle.hdc_syntax.proofs.Balanced.{plain, key_role, BalancedWord, word_by, put, put_free, put_loose, put_none, put_both, put_word, put_key, put_divide, put_within, put_each, put_small, put_capital, put_var, put_var_op, comma_var_word}
-use Rattle.hdc_pattern.proofs.TypeBalanced.{atype_word, type_exp_word}
+use Rattle.hdc_syntax.proofs.TypeBalanced.{atype_word, type_exp_word}
 use Rattle.hdc_expression.proofs.ExpressionBalanced.{head_word, rhs_word}
 use Rattle.hdc_parse.proofs.ProgramWords.{precedence_onto}
 

@@ -47,14 +47,14 @@ use Rattle.hdc_syntax.proofs.Good.{ok_same}
 use Rattle.hdc_syntax.proofs.Local.{Local, Within, Keeps, Halts, local_pure, local_refuse, local_token, local_many_from}
 use Rattle.hdc_syntax.proofs.Steps.{local_then, local_key, local_capital, local_look, local_if}
 use Rattle.hdc_syntax.proofs.NameRules.{local_var, local_var_op}
-use Rattle.hdc_pattern.proofs.TypeLooks.{local_atypes, local_type_exp}
+use Rattle.hdc_syntax.proofs.TypeLooks.{local_atypes, local_type_exp}
 use Rattle.hdc_expression.specs.declared.qualifier.QualHead.{QualHead}
 use Rattle.hdc_expression.specs.ExpressionReader.{Inner, generator, condition}
 use Rattle.hdc_expression.specs.DeclarationReader.{ends_member}
 use Rattle.hdc_expression.specs.Nested.{nested}
 use Rattle.hdc_expression.proofs.Opened.{GoodInner, LocalInner}
 use Rattle.hdc_expression.proofs.Apart.{apart}
-use Rattle.hdc_declaration.proofs.DeclarationLooks.{local_stated}
+use Rattle.hdc_parse.proofs.DeclarationLooks.{local_stated}
 use Rattle.hdc_parse.specs.ProgramReader.{export, comma_export, precedence_of, precedence, comma_name, comma_var_op, top_layer, top_of, comma_exports, exporting, plain_head, named_head, module_head, params, constr, bar_constr, bar_constrs, comma_names, derived_list, derived_none, derived_parens, derived_con, derived, data_top, synonym_top, comma_var_ops, fixity_top, stated_top, top_by, top, next_top, next_tops, tree, at_end, program}
 
 -- the head

@@ -58,13 +58,13 @@ use Rattle.hdc_syntax.proofs.Good.{Good, Reads, Begins, Spells, Token_of, good_a
 use Rattle.hdc_syntax.proofs.Steps.{some_at, some_name, token_of, small_token, small_is, number_token, good_then, good_key, good_capital, good_look, good_if, good_return}
 use Rattle.hdc_syntax.proofs.NameRules.{always, good_var, good_var_op}
 use Rattle.hdc_syntax.proofs.Tests.{both}
-use Rattle.hdc_pattern.proofs.Several.{good_many}
-use Rattle.hdc_pattern.proofs.TypeWords.{good_atypes, good_type_exp}
+use Rattle.hdc_syntax.proofs.Several.{good_many}
+use Rattle.hdc_syntax.proofs.TypeWords.{good_atypes, good_type_exp}
 use Rattle.hdc_expression.specs.ExpressionReader.{Inner}
 use Rattle.hdc_expression.specs.DeclarationReader.{ends_member}
 use Rattle.hdc_expression.specs.Nested.{nested}
 use Rattle.hdc_expression.proofs.Opened.{GoodInner}
-use Rattle.hdc_declaration.proofs.DeclarationWords.{is_plain_layer, Stated, good_stated}
+use Rattle.hdc_parse.proofs.DeclarationWords.{is_plain_layer, Stated, good_stated}
 use Rattle.hdc_parse.specs.ProgramReader.{export, comma_export, precedence_word_at, precedence_of, precedence, comma_name, comma_var_op, top_layer, top_of, comma_exports, exporting, plain_head, named_head, module_head, params, constr, bar_constr, bar_constrs, comma_names, derived_list, derived_none, derived_parens, derived_con, derived, data_top, synonym_top, comma_var_ops, fixity_top, stated_top, top_by, top, next_top, next_tops, tree, at_end, program}
 
 -- ---- the head

@@ -7,8 +7,8 @@ use Rattle.hdc_syntax.proofs.Good.{Good, Spells}
 use Rattle.hdc_syntax.proofs.Local.{Local}
 use Rattle.hdc_syntax.proofs.Meets.{Meets}
 use Rattle.hdc_syntax.proofs.Ample.{Ample, here}
-use Rattle.hdc_declaration.proofs.NestedParsers.{good_nested, local_nested, meets_nested}
-use Rattle.hdc_declaration.proofs.NestedAmple.{ample_nested}
+use Rattle.hdc_parse.proofs.NestedParsers.{good_nested, local_nested, meets_nested}
+use Rattle.hdc_parse.proofs.NestedAmple.{ample_nested}
 use Rattle.hdc_parse.specs.ProgramReader.{program}
 use Rattle.hdc_parse.proofs.ProgramWords.{good_program}
 use Rattle.hdc_parse.proofs.ProgramLooks.{local_program}

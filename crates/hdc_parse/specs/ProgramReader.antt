@@ -46,7 +46,7 @@ use Rattle.hdc_tree.specs.declared.program.Tree.{Tree}
 use Rattle.hdc_syntax.specs.Parser.{Parser, ◌>>=◌, pure, refuse, peek, token, many_from}
 use Rattle.hdc_syntax.specs.Words.{fixed, is, small, is_small, capital, is_capital}
 use Rattle.hdc_syntax.specs.Names.{var, var_op}
-use Rattle.hdc_pattern.specs.TypeReader.{atypes, type_exp}
+use Rattle.hdc_syntax.specs.TypeReader.{atypes, type_exp}
 use Rattle.hdc_expression.specs.ExpressionReader.{Inner}
 use Rattle.hdc_expression.specs.DeclarationReader.{ends_member, stated}
 use Rattle.hdc_expression.specs.Nested.{nested}

@@ -6,8 +6,7 @@ ghost use Rattle.hdc_expression.specs.Nested.{nested};
 ghost use Rattle.hdc_parse.specs.ProgramReader as reader;
 
 use hdc_base::{At, Key};
-use hdc_pattern::{atypes, type_exp};
-use hdc_syntax::{Cursor, Stop};
+use hdc_syntax::{Cursor, Stop, atypes, type_exp};
 use hdc_tree::{BarConstr, CommaName, Constr, Data, Deriving, Name, Synonym, Top};
 use sqlite_items::Items;
 

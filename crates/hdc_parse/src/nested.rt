@@ -5,7 +5,7 @@ ghost use Rattle.hdc_syntax.specs.Results.{Reads};
 ghost use Rattle.hdc_expression.specs.Nested.{nested};
 ghost use Rattle.hdc_parse.specs.ProgramReader as reader;
 
-use hdc_declaration::stated;
+use crate::declaration::stated;
 use hdc_expression::Grammar;
 use hdc_syntax::{Cursor, Stop};
 use hdc_tree::{Alts, Block, Decl, Expression, Op, Sign, Top};
@@ -50,7 +50,7 @@ pub fn nested_block(tokens: &mut Cursor<'_>, turns: usize, depth: usize) -> Resu
         block: nested_block,
         alts: nested_alts,
     };
-    hdc_declaration::block(&grammar, tokens)
+    crate::declaration::block(&grammar, tokens)
 }
 
 /// Alternatives in braces.
@@ -68,7 +68,7 @@ pub fn nested_alts(tokens: &mut Cursor<'_>, turns: usize, depth: usize) -> Resul
         block: nested_block,
         alts: nested_alts,
     };
-    hdc_declaration::alts(&grammar, tokens)
+    crate::alternative::alts(&grammar, tokens)
 }
 
 /// A declaration of top level, which binds no pattern.

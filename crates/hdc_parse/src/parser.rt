@@ -47,8 +47,7 @@ fn parse_nested(alloc: Global, tokens: &[Token], end: At, index: usize) -> Resul
         Ok(_tree) => Err(ParseStop::Nesting(place_of(tokens, end, index))),
         Err(stop) => match stop {
             Stop::Want => Err(ParseStop::Want),
-            // The depth suffices, so this never comes.
-            Stop::Deep => Err(ParseStop::Want),
+            Stop::Deep => unreachable!(),
             Stop::Syntax(0) => Err(ParseStop::Nesting(place_of(tokens, end, index))),
             Stop::Syntax(left) => {
                 Err(ParseStop::Syntax(place_of(tokens, end, index + 1 - left)))
@@ -78,8 +77,7 @@ fn parse_regular(
         }
         Err(stop) => match stop {
             Stop::Want => Err(ParseStop::Want),
-            // The depth suffices, so this never comes.
-            Stop::Deep => Err(ParseStop::Want),
+            Stop::Deep => unreachable!(),
             Stop::Syntax(left) => { Err(ParseStop::Syntax(place_of(tokens, end, regular - left))) }
         },
     }

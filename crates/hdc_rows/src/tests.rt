@@ -3,3 +3,4 @@
 mod job;
 mod outside;
 mod rows;
+mod trees;

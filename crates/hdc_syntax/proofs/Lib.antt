@@ -8,3 +8,15 @@ pub mod Turns
 pub mod Steps
 pub mod NameRules
 pub mod Keeping
+pub mod Several
+pub mod PatternWords
+pub mod PatternLooks
+pub mod PatternAgain
+pub mod TypeWords
+pub mod TypeLooks
+pub mod TypeAgain
+pub mod PatternBalanced
+pub mod TypeBalanced
+pub mod AmpleSteps
+pub mod PatternAmple
+pub mod TypeAmple

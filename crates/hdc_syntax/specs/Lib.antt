@@ -3,3 +3,5 @@ pub mod Results
 pub mod Regular
 pub mod Words
 pub mod Names
+pub mod PatternReader
+pub mod TypeReader

@@ -1,5 +1,5 @@
 -- What is due, from what the parts of a job answer.
-use Rattle.std.proofs.Common.{◌≡◌, ◌≢◌, ℕ, suc, ◌<◌, ◌≤◌, List, [], length, Option, Some, None, Result, Ok, Err, inl, inr, refl, sym, ap, ◌∙◌, subst, arith}
+use Rattle.std.proofs.Common.{◌≡◌, ◌≢◌, ℕ, suc, ◌<◌, ◌≤◌, List, [], length, Option, Some, None, Result, Ok, Err, ◌⊎◌, inl, inr, refl, sym, ap, ◌∙◌, subst, arith}
 use Rattle.std.specs.Prelude.{IfSome, IfOk, replicate}
 use Rattle.std.proofs.lemmas.List.{length-replicate}
 use Rattle.hdc_base.specs.declared.place.At.{At}
@@ -15,7 +15,7 @@ use Rattle.hdc_lex.specs.declared.lexer.LexStop.TheVariants as lex
 use Rattle.hdc_lex.specs.Lexing.{Lexes}
 use Rattle.hdc_lex.proofs.OneAnswer.{same_answer}
 use Rattle.hdc_layout.specs.LaidOut.{laid_out}
-use Rattle.hdc_tree.specs.Program.{IsProgram, SpellsNone}
+use Rattle.hdc_tree.specs.Program.{IsProgram}
 use Rattle.hdc_value.specs.declared.outcome.Outcome.{Outcome}
 use Rattle.hdc_value.specs.declared.outcome.Outcome.TheVariants as outcome
 use Rattle.hdc_value.specs.Answer.{Answer}
@@ -26,7 +26,9 @@ use Rattle.hdc_code.specs.declared.instr.Instr.{Instr}
 use Rattle.hdc_code.specs.Sound.{EndsWith}
 use Rattle.hdc_top.specs.declared.job.Due.{Due}
 use Rattle.hdc_top.specs.Code.{CarriesMeaning}
-use Rattle.hdc_top.specs.Stopped.{most_bytes, lexer_stop, not_yet, refused_at, end_place, HasLayout, SpellsTree, IsStopped, lexemes, layout, not_built, IsRefused, PassesLimit}
+use Rattle.hdc_parse.specs.declared.stop.ParseStop.TheVariants as parsing
+use Rattle.hdc_parse.proofs.OneAnswer.{parsed_no_syntax, parsed_no_nesting, syntax_once, nesting_once, syntax_no_nesting}
+use Rattle.hdc_top.specs.Stopped.{most_bytes, lexer_stop, parser_stop, refused_at, end_place, HasLayout, SpellsLaid, SpellsTree, StopsLaid, syntax_at, nesting_at, not_built, LacksLayout, lexemes, layout, IsStopped, no_tokens, laid_tokens, IsRefused, NestsTooDeep, PassesLimit}
 use Rattle.hdc_top.specs.Report.{run_text, stop_text}
 use Rattle.hdc_top.specs.Words.{job_of, usage_text}
 use Rattle.hdc_top.specs.Due.{budget, too_long, status_of, stop_status, IsDueFor, long, stopped, ran, IsDue, usage, job, IsTold, IsDueFrom, IsFileText}
@@ -49,10 +51,18 @@ lexer_want (lex.Unclosed at) e = cc
 lexer_want (lex.Tokens at) e = cc
 lexer_want lex.Want e = refl
 
+laid_want : (laid : List Token) (end : At) (s : Stop) → StopsLaid laid end s → s ≢ stop.Want
+laid_want laid end _ (syntax_at at h) = λ e. cc
+laid_want laid end _ (nesting_at at h) = λ e. cc
+laid_want laid end _ (not_built whole parsed none) = λ e. cc
+
+unlaid_want : (text : List ℕ) (s : Stop) → LacksLayout text s → s ≢ stop.Want
+unlaid_want text _ (lexemes s h told) = λ e. told (lexer_want s e)
+unlaid_want text _ (layout tokens at h e) = λ e. cc
+
 never_want : (text : List ℕ) (s : Stop) → IsStopped text s → s ≢ stop.Want
-never_want text _ (lexemes s h told) = λ e. told (lexer_want s e)
-never_want text _ (layout tokens at h e) = λ e. cc
-never_want text _ (not_built laid h none) = λ e. cc
+never_want text s (no_tokens _ h) = unlaid_want text s h
+never_want text s (laid_tokens laid _ h why) = laid_want laid (end_place text) s why
 
 stop_written : (s : Stop) → s ≢ stop.Want → IsWritten (stop_status s)
 stop_written (stop.Refused r) h = record { read = λ e. omega arith; written = λ e. omega arith; ample = λ e. omega arith }
@@ -130,12 +140,12 @@ one_meaning t u a b e m n = some_inj (sym m ∙ ap (λ x. meaning x budget) e �
     some_inj h = cc
 
 -- what comes of an answer of the lexer: the stop of it, or that of its tokens
-abbrev StopsLaid : Result (List Token) At → Stop → Type 0
-StopsLaid (Ok laid) s = (s ≡ not_yet) × SpellsNone laid
-StopsLaid (Err at) s = s ≡ refused_at kind.Brace at
+abbrev StopsLayout : Result (List Token) At → At → Stop → Type 0
+StopsLayout (Ok laid) end s = StopsLaid laid end s
+StopsLayout (Err at) end s = s ≡ refused_at kind.Brace at
 
 abbrev StopsAt : Result (List Token) LexStop → At → Stop → Type 0
-StopsAt (Ok tokens) end s = StopsLaid (laid_out tokens end) s
+StopsAt (Ok tokens) end s = StopsLayout (laid_out tokens end) end s
 StopsAt (Err told) end s = s ≡ lexer_stop told
 
 record Stopping (text : List ℕ) (s : Stop) : Type 0 where
@@ -144,20 +154,35 @@ record Stopping (text : List ℕ) (s : Stop) : Type 0 where
   pub told : answer ≡ Err lex.Want → ⊥
   pub stops : StopsAt answer (end_place text) s
 
-stopping : (text : List ℕ) (s : Stop) → IsStopped text s → Stopping text s
-stopping text _ (lexemes s h told) = record { answer = Err s; lexed = h; told = λ e. told (err_inj s lex.Want e); stops = refl }
+unlaid_stopping : (text : List ℕ) (s : Stop) → LacksLayout text s → Stopping text s
+unlaid_stopping text _ (lexemes s h told) = record { answer = Err s; lexed = h; told = λ e. told (err_inj s lex.Want e); stops = refl }
   where
     err_inj : (s t : LexStop) → ◌≡◌ {A = Result (List Token) LexStop} (Err s) (Err t) → s ≡ t
     err_inj s t e = cc
-stopping text _ (layout tokens at h e) = record { answer = Ok tokens; lexed = h; told = λ e. cc; stops = subst (λ r. StopsLaid r (refused_at kind.Brace at)) (sym e) refl }
-stopping text _ (not_built laid h none) = record { answer = Ok h.tokens; lexed = h.lexed; told = λ e. cc; stops = subst (λ r. StopsLaid r not_yet) (sym h.laid_out) (refl, none) }
+unlaid_stopping text _ (layout tokens at h e) = record { answer = Ok tokens; lexed = h; told = λ e. cc; stops = subst (λ r. StopsLayout r (end_place text) (refused_at kind.Brace at)) (sym e) refl }
 
-laid_once : (r : Result (List Token) At) (s t : Stop) → StopsLaid r s → StopsLaid r t → s ≡ t
-laid_once (Ok laid) s t h g = h.0 ∙ sym g.0
-laid_once (Err at) s t h g = h ∙ sym g
+stopping : (text : List ℕ) (s : Stop) → IsStopped text s → Stopping text s
+stopping text s (no_tokens _ h) = unlaid_stopping text s h
+stopping text s (laid_tokens laid _ h why) = record { answer = Ok h.tokens; lexed = h.lexed; told = λ e. cc; stops = subst (λ r. StopsLayout r (end_place text) s) (sym h.laid_out) why }
+
+-- laid-out tokens are stopped in one way
+laid_once : (laid : List Token) (end : At) (s t : Stop) → StopsLaid laid end s → StopsLaid laid end t → s ≡ t
+laid_once laid end _ _ (syntax_at a h) (syntax_at b g) = ap (λ at. parser_stop (parsing.Syntax at)) (syntax_once laid end a b h g)
+laid_once laid end _ _ (syntax_at a h) (nesting_at b g) = absurd (syntax_no_nesting laid end a b h g)
+laid_once laid end _ _ (syntax_at a h) (not_built whole parsed none) = absurd (parsed_no_syntax laid end a whole parsed h)
+laid_once laid end _ _ (nesting_at a h) (syntax_at b g) = absurd (syntax_no_nesting laid end b a g h)
+laid_once laid end _ _ (nesting_at a h) (nesting_at b g) = ap (λ at. parser_stop (parsing.Nesting at)) (nesting_once laid end a b h g)
+laid_once laid end _ _ (nesting_at a h) (not_built whole parsed none) = absurd (parsed_no_nesting laid end a whole parsed h)
+laid_once laid end _ _ (not_built whole parsed none) (syntax_at b g) = absurd (parsed_no_syntax laid end b whole parsed g)
+laid_once laid end _ _ (not_built whole parsed none) (nesting_at b g) = absurd (parsed_no_nesting laid end b whole parsed g)
+laid_once laid end _ _ (not_built whole parsed none) (not_built other again nothing) = refl
+
+layout_stops_once : (r : Result (List Token) At) (end : At) (s t : Stop) → StopsLayout r end s → StopsLayout r end t → s ≡ t
+layout_stops_once (Ok laid) end s t h g = laid_once laid end s t h g
+layout_stops_once (Err at) end s t h g = h ∙ sym g
 
 stops_once : (a : Result (List Token) LexStop) (end : At) (s t : Stop) → StopsAt a end s → StopsAt a end t → s ≡ t
-stops_once (Ok tokens) end s t h g = laid_once (laid_out tokens end) s t h g
+stops_once (Ok tokens) end s t h g = layout_stops_once (laid_out tokens end) end s t h g
 stops_once (Err told) end s t h g = h ∙ sym g
 
 -- a text is stopped in one way
@@ -169,24 +194,49 @@ stopped_once text s t h g =
     stops_once b.answer (end_place text) s t (subst (λ r. StopsAt r (end_place text) s) same a.stops) b.stops
 
 -- the laid-out tokens of a text are one list
-layout_once : (text : List ℕ) (laid others : List Token) → HasLayout text laid → HasLayout text others → laid ≡ others
+pub layout_once : (text : List ℕ) (laid others : List Token) → HasLayout text laid → HasLayout text others → laid ≡ others
 layout_once text laid others h g =
     let same = same_answer form.Program text (Ok h.tokens) (Ok g.tokens) h.lexed g.lexed (λ e. cc) (λ e. cc) in
     let tokens : h.tokens ≡ g.tokens = cc in
     let both : ◌≡◌ {A = Result (List Token) At} (Ok laid) (Ok others) = sym h.laid_out ∙ ap (λ ts. laid_out ts (end_place text)) tokens ∙ g.laid_out in
     cc
 
+no_answer : (s : LexStop) (tokens : List Token) → ◌≡◌ {A = Result (List Token) LexStop} (Err s) (Ok tokens) → ⊥
+no_answer s tokens e = cc
+
+no_layout : (at : At) (laid : List Token) → ◌≡◌ {A = Result (List Token) At} (Err at) (Ok laid) → ⊥
+no_layout at laid e = cc
+
+same_stop : (s t : LexStop) → ◌≡◌ {A = Result (List Token) LexStop} (Err s) (Err t) → s ≡ t
+same_stop s t e = cc
+
+same_tokens : (a b : List Token) → ◌≡◌ {A = Result (List Token) LexStop} (Ok a) (Ok b) → a ≡ b
+same_tokens a b e = cc
+
+-- a text without laid-out tokens has none
+pub unlaid_none : (text : List ℕ) (s : Stop) (laid : List Token) → LacksLayout text s → HasLayout text laid → ⊥
+unlaid_none text _ laid (lexemes s h told) g = no_answer s g.tokens (same_answer form.Program text (Err s) (Ok g.tokens) h g.lexed (λ e. told (same_stop s lex.Want e)) (λ e. cc))
+unlaid_none text _ laid (layout tokens at h e) g =
+    let list = same_tokens tokens g.tokens (same_answer form.Program text (Ok tokens) (Ok g.tokens) h g.lexed (λ e. cc) (λ e. cc)) in
+    no_layout at laid (sym e ∙ ap (λ ts. laid_out ts (end_place text)) list ∙ g.laid_out)
+
+-- laid-out tokens that are stopped spell no tree
+laid_none : (laid : List Token) (end : At) (s : Stop) (tree : Tree) → StopsLaid laid end s → SpellsLaid laid tree → ⊥
+laid_none laid end _ tree (syntax_at at h) p = parsed_no_syntax laid end at p.whole p.parsed h
+laid_none laid end _ tree (nesting_at at h) p = parsed_no_nesting laid end at p.whole p.parsed h
+laid_none laid end _ tree (not_built whole parsed none) p = none tree p.program
+
 -- a text that is stopped spells no tree
 stopped_none : (text : List ℕ) (s : Stop) (tree : Tree) → IsStopped text s → SpellsTree text tree → ⊥
 stopped_none text s tree h p =
     let a = stopping text s h in
     let same = same_answer form.Program text a.answer (Ok p.layout.tokens) a.lexed p.layout.lexed a.told (λ e. cc) in
-    let stops : StopsLaid (laid_out p.layout.tokens (end_place text)) s = subst (λ r. StopsAt r (end_place text) s) same a.stops in
-    (subst (λ r. StopsLaid r s) p.layout.laid_out stops).1 tree p.program
+    let stops : StopsLayout (laid_out p.layout.tokens (end_place text)) (end_place text) s = subst (λ r. StopsAt r (end_place text) s) same a.stops in
+    laid_none p.laid (end_place text) s tree (subst (λ r. StopsLayout r (end_place text) s) p.layout.laid_out stops) p.spelled
 
 -- a text spells one tree
 spelled_once : (text : List ℕ) (first second : Tree) → SpellsTree text first → SpellsTree text second → first ≡ second
-spelled_once text first second h g = same_tree g.laid first second (subst (λ laid. IsProgram laid first) (layout_once text h.laid g.laid h.layout g.layout) h.program) g.program
+spelled_once text first second h g = same_tree g.laid first second (subst (λ laid. IsProgram laid first) (layout_once text h.laid g.laid h.layout g.layout) h.spelled.program) g.spelled.program
 
 text_once : (text : List ℕ) (s : ℕ) (b : List ℕ) → IsDueFor text s b → (t : ℕ) (c : List ℕ) → IsDueFor text t c → (s ≡ t) × (b ≡ c)
 text_once text _ _ (long h) _ _ (long g) = (refl, refl)
@@ -236,10 +286,18 @@ lexer_limit text (lex.Unclosed at) h e = absurd (omega arith)
 lexer_limit text (lex.Tokens at) h e = (at, h)
 lexer_limit text lex.Want h e = absurd (omega arith)
 
-stop_limit : (text : List ℕ) (s : Stop) → IsStopped text s → stop_status s ≡ 8 → (at : At) × Lexes form.Program text (Err (lex.Tokens at))
-stop_limit text _ (lexemes s h told) e = lexer_limit text s h e
-stop_limit text _ (layout tokens at h g) e = absurd (omega arith)
-stop_limit text _ (not_built laid h none) e = absurd (omega arith)
+laid_limit : (text : List ℕ) (laid : List Token) (s : Stop) → HasLayout text laid → StopsLaid laid (end_place text) s → stop_status s ≡ 8 → NestsTooDeep text
+laid_limit text laid _ h (syntax_at at g) e = absurd (omega arith)
+laid_limit text laid _ h (nesting_at at g) e = record { laid = laid; layout = h; at = at; nesting = g }
+laid_limit text laid _ h (not_built whole parsed none) e = absurd (omega arith)
+
+unlaid_limit : (text : List ℕ) (s : Stop) → LacksLayout text s → stop_status s ≡ 8 → (at : At) × Lexes form.Program text (Err (lex.Tokens at))
+unlaid_limit text _ (lexemes s h told) e = lexer_limit text s h e
+unlaid_limit text _ (layout tokens at h g) e = absurd (omega arith)
+
+stop_limit : (text : List ℕ) (s : Stop) → IsStopped text s → stop_status s ≡ 8 → ((at : At) × Lexes form.Program text (Err (lex.Tokens at))) ⊎ NestsTooDeep text
+stop_limit text s (no_tokens _ h) e = inl (unlaid_limit text s h e)
+stop_limit text s (laid_tokens laid _ h why) e = inr (laid_limit text laid s h why e)
 
 text_limit : (text : List ℕ) (status : ℕ) (bytes : List ℕ) → IsDueFor text status bytes → status ≡ 8 → PassesLimit text
 text_limit text _ _ (long h) e = inl h
@@ -247,14 +305,19 @@ text_limit text _ _ (stopped s h why) e = inr (stop_limit text s why e)
 text_limit text _ _ (ran tree a h program m) e = absurd ((ran_apart a.outcome).0 e)
 
 too_many : (text : List ℕ) (at : At) → Lexes form.Program text (Err (lex.Tokens at)) → IsStopped text (lexer_stop (lex.Tokens at))
-too_many text at h = lexemes (lex.Tokens at) h (λ e. cc)
+too_many text at h = no_tokens _ (lexemes (lex.Tokens at) h (λ e. cc))
+
+too_deep : (text : List ℕ) (deep : NestsTooDeep text) → IsStopped text (parser_stop (parsing.Nesting deep.at))
+too_deep text deep = laid_tokens deep.laid _ deep.layout (nesting_at deep.at deep.nesting)
 
 text_long : (text : List ℕ) (status : ℕ) (bytes : List ℕ) → IsDueFor text status bytes → PassesLimit text → status ≡ 8
 text_long text _ _ (long h) l = refl
 text_long text _ _ (stopped s h why) (inl l) = absurd (omega arith)
-text_long text _ _ (stopped s h why) (inr (at, many)) = ap stop_status (stopped_once text s (lexer_stop (lex.Tokens at)) why (too_many text at many))
+text_long text _ _ (stopped s h why) (inr (inl (at, many))) = ap stop_status (stopped_once text s (lexer_stop (lex.Tokens at)) why (too_many text at many))
+text_long text _ _ (stopped s h why) (inr (inr deep)) = ap stop_status (stopped_once text s (parser_stop (parsing.Nesting deep.at)) why (too_deep text deep))
 text_long text _ _ (ran tree a h program m) (inl l) = absurd (omega arith)
-text_long text _ _ (ran tree a h program m) (inr (at, many)) = absurd (stopped_none text (lexer_stop (lex.Tokens at)) tree (too_many text at many) program)
+text_long text _ _ (ran tree a h program m) (inr (inl (at, many))) = absurd (stopped_none text (lexer_stop (lex.Tokens at)) tree (too_many text at many) program)
+text_long text _ _ (ran tree a h program m) (inr (inr deep)) = absurd (stopped_none text (parser_stop (parsing.Nesting deep.at)) tree (too_deep text deep) program)
 
 text_refused : (text : List ℕ) (status : ℕ) (bytes : List ℕ) → IsDueFor text status bytes → status ≡ 1 → IsRefused text
 text_refused text _ _ (long h) e = absurd (omega arith)

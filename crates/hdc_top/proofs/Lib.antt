@@ -3,3 +3,4 @@ pub mod Running
 pub mod Dues
 pub mod Tokens
 pub mod Texts
+pub mod NoTree

@@ -17,9 +17,13 @@ use Rattle.hdc_tree.specs.Tree.{Tree, tree_of}
 use Rattle.hdc_tree.specs.Program.{IsProgram, SpellsNone, program_tokens}
 use Rattle.hdc_tree.specs.Reading.{tokens_in, program_of}
 use Rattle.hdc_tree.proofs.Programs.{program_found, program_read, inner_same}
-use Rattle.hdc_top.specs.Stopped.{not_yet, layout_stop, lexer_stop, end_place, IsStopped, lexemes, layout, not_built}
-use Rattle.hdc_top.specs.Results as results
-use Rattle.hdc_top.specs.Results.{IsBetween, Finds, Reads, ReadsProgram, StopsTokens, ReadsTokens, ReadsText, Compiles}
+use Rattle.hdc_parse.specs.declared.stop.ParseStop.{ParseStop}
+use Rattle.hdc_parse.specs.declared.stop.ParseStop.TheVariants as parsing
+use Rattle.hdc_parse.specs.Exact.{IsParsed}
+use Rattle.hdc_parse.specs.Answer.{IsAnswer}
+use Rattle.hdc_tree.specs.declared.program.Tree as program
+use Rattle.hdc_top.specs.Stopped.{not_yet, layout_stop, lexer_stop, parser_stop, end_place, HasLayout, StopsLaid, syntax_at, nesting_at, not_built, IsStopped, no_tokens, lexemes, layout, laid_tokens}
+use Rattle.hdc_top.specs.Results.{IsBetween, Finds, Reads, ReadsProgram, LaysText, ReadsLaid, ReadsText, Compiles}
 use Rattle.hdc_top.specs.declared.reader.ReadStop.{ReadStop}
 use Rattle.hdc_top.specs.declared.reader.ReadStop.TheVariants as stop
 
@@ -47,40 +51,50 @@ program_stops laid inner stop.NotYet between h = λ tree p.
     cc
 program_stops laid inner stop.Want between h = tt
 
--- tokens that are no program stop there
-pub not_built_stops : (tokens laid : List text_token.Token) (end : At) (s : Stop) → laid_out tokens end ≡ Ok laid → SpellsNone laid → s ≡ not_yet → ReadsTokens tokens end (Err s)
-not_built_stops tokens laid end s e none same = subst (λ s. ReadsTokens tokens end (Err s)) (sym same) (results.not_built laid e none)
+-- laid-out tokens that are a program, but not of the form that is built
+pub not_built_stops : (laid : List text_token.Token) (end : At) (whole : program.Tree) (s : Stop) → IsParsed laid whole → SpellsNone laid → s ≡ not_yet → ReadsLaid laid end (Err s)
+not_built_stops laid end whole s parsed none same = subst (λ s. ReadsLaid laid end (Err s)) (sym same) (not_built whole parsed none)
 
-laying_stops : (tokens : List text_token.Token) (end : At) (s : LayoutStop) → IsLaidOut (laid_out tokens end) (Err s) → ReadsTokens tokens end (Err (layout_stop s))
-laying_stops tokens end (laying.Brace at) h = results.layout at h
-laying_stops tokens end laying.Want h = tt
+parsing_stops : (laid : List text_token.Token) (end : At) (s : ParseStop) → IsAnswer laid end (Err s) → ReadsLaid laid end (Err (parser_stop s))
+parsing_stops laid end (parsing.Syntax at) h = syntax_at at h
+parsing_stops laid end (parsing.Nesting at) h = nesting_at at h
+parsing_stops laid end parsing.Want h = tt
 
--- what the layout's stop is read as
-pub layout_stops : (tokens : List text_token.Token) (end : At) (s : LayoutStop) (t : Stop) → IsLaidOut (laid_out tokens end) (Err s) → t ≡ layout_stop s → ReadsTokens tokens end (Err t)
-layout_stops tokens end s t h same = subst (λ t. ReadsTokens tokens end (Err t)) (sym same) (laying_stops tokens end s h)
+-- what the parser's stop is read as
+pub parser_stops : (laid : List text_token.Token) (end : At) (s : ParseStop) (t : Stop) → IsAnswer laid end (Err s) → t ≡ parser_stop s → ReadsLaid laid end (Err t)
+parser_stops laid end s t h same = subst (λ t. ReadsLaid laid end (Err t)) (sym same) (parsing_stops laid end s h)
 
--- what stops the tokens of a text stops the text
-tokens_stop : (text : List ℕ) (tokens : List text_token.Token) (s : Stop) → Lexes form.Program text (Ok tokens) → StopsTokens tokens (end_place text) s → IsStopped text s
-tokens_stop text tokens _ lexed (results.layout at e) = layout tokens at lexed e
-tokens_stop text tokens _ lexed (results.not_built laid e none) = not_built laid (record { tokens = tokens; lexed = lexed; laid_out = e }) none
+lexer_lays : (text : List ℕ) (s : LexStop) → Lexes form.Program text (Err s) → LaysText text (Err (lexer_stop s))
+lexer_lays text (lex.Byte at) h = lexemes (lex.Byte at) h (λ e. cc)
+lexer_lays text (lex.Literal at) h = lexemes (lex.Literal at) h (λ e. cc)
+lexer_lays text (lex.Unclosed at) h = lexemes (lex.Unclosed at) h (λ e. cc)
+lexer_lays text (lex.Tokens at) h = lexemes (lex.Tokens at) h (λ e. cc)
+lexer_lays text lex.Want h = tt
 
--- what is read of the tokens of a text is read of the text
-pub text_reads : (text : List ℕ) (tokens : List text_token.Token) (end : At) (r : Result Exp Stop) → Lexes form.Program text (Ok tokens) → end ≡ end_place text → ReadsTokens tokens end r → ReadsText text r
-text_reads text tokens end (Ok e) lexed same (laid, out, program) = record { laid = laid; layout = record { tokens = tokens; lexed = lexed; laid_out = ap (laid_out tokens) (sym same) ∙ out }; program = program }
-text_reads text tokens end (Err text_stop.Want) lexed same h = tt
-text_reads text tokens end (Err (text_stop.Refused x)) lexed same h = tokens_stop text tokens _ lexed (subst (λ at. StopsTokens tokens at (text_stop.Refused x)) same h)
-text_reads text tokens end (Err (text_stop.Limit l)) lexed same h = tokens_stop text tokens _ lexed (subst (λ at. StopsTokens tokens at (text_stop.Limit l)) same h)
+-- a stop of the lexer is a stop of the text
+pub lexer_stops : (text : List ℕ) (s : LexStop) (t : Stop) → Lexes form.Program text (Err s) → t ≡ lexer_stop s → LaysText text (Err t)
+lexer_stops text s t h same = subst (λ t. LaysText text (Err t)) (sym same) (lexer_lays text s h)
 
--- what the lexer's stop is read as
-lexer_reads : (text : List ℕ) (s : LexStop) → Lexes form.Program text (Err s) → ReadsText text (Err (lexer_stop s))
-lexer_reads text (lex.Byte at) h = lexemes (lex.Byte at) h (λ e. cc)
-lexer_reads text (lex.Literal at) h = lexemes (lex.Literal at) h (λ e. cc)
-lexer_reads text (lex.Unclosed at) h = lexemes (lex.Unclosed at) h (λ e. cc)
-lexer_reads text (lex.Tokens at) h = lexemes (lex.Tokens at) h (λ e. cc)
-lexer_reads text lex.Want h = tt
+layout_lays : (text : List ℕ) (tokens : List text_token.Token) (s : LayoutStop) → Lexes form.Program text (Ok tokens) → IsLaidOut (laid_out tokens (end_place text)) (Err s) → LaysText text (Err (layout_stop s))
+layout_lays text tokens (laying.Brace at) lexed h = layout tokens at lexed h
+layout_lays text tokens laying.Want lexed h = tt
 
-pub text_stops : (text : List ℕ) (s : LexStop) (t : Stop) → Lexes form.Program text (Err s) → t ≡ lexer_stop s → ReadsText text (Err t)
-text_stops text s t h same = subst (λ t. ReadsText text (Err t)) (sym same) (lexer_reads text s h)
+-- a stop of the layout is a stop of the text
+pub layout_stops : (text : List ℕ) (tokens : List text_token.Token) (end : At) (s : LayoutStop) (t : Stop) → Lexes form.Program text (Ok tokens) → end ≡ end_place text → IsLaidOut (laid_out tokens end) (Err s) → t ≡ layout_stop s → LaysText text (Err t)
+layout_stops text tokens end s t lexed place h same = subst (λ t. LaysText text (Err t)) (sym same) (layout_lays text tokens s lexed (subst (λ at. IsLaidOut (laid_out tokens at) (Err s)) place h))
+
+-- what a text's laid-out tokens are read as, the text is read as
+pub laid_reads : (text : List ℕ) (laid : List text_token.Token) (end : At) (r : Result Exp Stop) → HasLayout text laid → end ≡ end_place text → ReadsLaid laid end r → ReadsText text r
+laid_reads text laid end (Ok e) has place h = record { laid = laid; layout = has; spelled = h }
+laid_reads text laid end (Err text_stop.Want) has place h = tt
+laid_reads text laid end (Err (text_stop.Refused x)) has place h = laid_tokens laid (text_stop.Refused x) has (subst (λ at. StopsLaid laid at (text_stop.Refused x)) place h)
+laid_reads text laid end (Err (text_stop.Limit l)) has place h = laid_tokens laid (text_stop.Limit l) has (subst (λ at. StopsLaid laid at (text_stop.Limit l)) place h)
+
+-- a text without laid-out tokens is stopped
+pub unlaid_reads : (text : List ℕ) (s : Stop) → LaysText text (Err s) → ReadsText text (Err s)
+unlaid_reads text text_stop.Want h = tt
+unlaid_reads text (text_stop.Refused r) h = no_tokens (text_stop.Refused r) h
+unlaid_reads text (text_stop.Limit l) h = no_tokens (text_stop.Limit l) h
 
 -- why a text was not compiled
 pub compiled_stop : (text : List ℕ) (s : Stop) → s ≢ text_stop.Want → Compiles text (Err s) → IsStopped text s

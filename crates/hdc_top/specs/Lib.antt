@@ -1,5 +1,6 @@
 pub mod Stopped
 pub mod Results
+pub mod Prelude
 pub mod Parsing
 pub mod Code
 pub mod Runs

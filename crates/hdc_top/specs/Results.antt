@@ -4,10 +4,8 @@ use Rattle.std.specs.declared.alloc.Global.{Global}
 use Rattle.std.specs.Prelude.{Vec}
 use Rattle.hdc_base.specs.declared.place.At.{At}
 use Rattle.hdc_base.specs.declared.token.Token as text_token
-use Rattle.hdc_base.specs.declared.refusal.Kind.TheVariants as kind
 use Rattle.hdc_base.specs.declared.refusal.Stop.{Stop}
 use Rattle.hdc_base.specs.declared.refusal.Stop.TheVariants as text_stop
-use Rattle.hdc_layout.specs.LaidOut.{laid_out}
 use Rattle.hdc_tree.specs.declared.exp.Exp.{Exp}
 use Rattle.hdc_tree.specs.declared.token.Token.{Token}
 use Rattle.hdc_tree.specs.Tree.{Tree, tree_of}
@@ -15,7 +13,7 @@ use Rattle.hdc_tree.specs.Lexemes.{braced}
 use Rattle.hdc_tree.specs.Program.{IsProgram, SpellsNone}
 use Rattle.hdc_code.specs.declared.instr.Instr.{Instr}
 use Rattle.hdc_top.specs.Code.{CarriesMeaning}
-use Rattle.hdc_top.specs.Stopped.{not_yet, refused_at, SpellsTree, IsStopped}
+use Rattle.hdc_top.specs.Stopped.{HasLayout, LacksLayout, SpellsLaid, SpellsTree, StopsLaid, IsStopped}
 use Rattle.hdc_top.specs.declared.reader.ReadStop.{ReadStop}
 use Rattle.hdc_top.specs.declared.reader.ReadStop.TheVariants as stop
 
@@ -41,17 +39,19 @@ ReadsProgram laid (Ok e) = IsProgram laid (tree_of e)
 ReadsProgram laid (Err stop.NotYet) = SpellsNone laid
 ReadsProgram laid (Err stop.Want) = Unit {0}
 
--- why tokens are no program: their layout is refused, or they are not of the form that is built
-pub data StopsTokens (tokens : List text_token.Token) (end : At) : Stop → Type 0 where
-  layout : (at : At) → laid_out tokens end ≡ Err at → StopsTokens tokens end (refused_at kind.Brace at)
-  not_built : (laid : List text_token.Token) → laid_out tokens end ≡ Ok laid → SpellsNone laid → StopsTokens tokens end not_yet
+-- the laid-out tokens spell this tree, or why they spell none
+abbrev pub ReadsLaid : List text_token.Token → At → Result Exp Stop → Type 0
+ReadsLaid laid end (Ok e) = SpellsLaid laid (tree_of e)
+ReadsLaid laid end (Err text_stop.Want) = Unit {0}
+ReadsLaid laid end (Err (text_stop.Refused r)) = StopsLaid laid end (text_stop.Refused r)
+ReadsLaid laid end (Err (text_stop.Limit l)) = StopsLaid laid end (text_stop.Limit l)
 
--- the laid-out tokens of these spell this tree, or why they spell none
-abbrev pub ReadsTokens : List text_token.Token → At → Result Exp Stop → Type 0
-ReadsTokens tokens end (Ok e) = (laid : List text_token.Token) × (laid_out tokens end ≡ Ok laid) × IsProgram laid (tree_of e)
-ReadsTokens tokens end (Err text_stop.Want) = Unit {0}
-ReadsTokens tokens end (Err (text_stop.Refused r)) = StopsTokens tokens end (text_stop.Refused r)
-ReadsTokens tokens end (Err (text_stop.Limit l)) = StopsTokens tokens end (text_stop.Limit l)
+-- the laid-out tokens of a text, or why it has none
+abbrev pub LaysText : List ℕ → Result (List text_token.Token) Stop → Type 0
+LaysText text (Ok laid) = HasLayout text laid
+LaysText text (Err text_stop.Want) = Unit {0}
+LaysText text (Err (text_stop.Refused r)) = LacksLayout text (text_stop.Refused r)
+LaysText text (Err (text_stop.Limit l)) = LacksLayout text (text_stop.Limit l)
 
 -- the text spells this tree, or why it spells none
 abbrev pub ReadsText : List ℕ → Result Exp Stop → Type 0

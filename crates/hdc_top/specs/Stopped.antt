@@ -17,8 +17,12 @@ use Rattle.hdc_lex.specs.Lexing.{Lexes}
 use Rattle.hdc_layout.specs.declared.stop.LayoutStop.{LayoutStop}
 use Rattle.hdc_layout.specs.declared.stop.LayoutStop.TheVariants as laying
 use Rattle.hdc_layout.specs.LaidOut.{laid_out}
+use Rattle.hdc_tree.specs.declared.program.Tree as program
 use Rattle.hdc_tree.specs.Tree.{Tree}
 use Rattle.hdc_tree.specs.Program.{IsProgram, SpellsNone}
+use Rattle.hdc_parse.specs.declared.stop.ParseStop.{ParseStop}
+use Rattle.hdc_parse.specs.declared.stop.ParseStop.TheVariants as parsing
+use Rattle.hdc_parse.specs.Exact.{IsParsed, IsSyntax, IsNesting}
 
 -- the most bytes of a file
 abbrev pub most_bytes : ℕ
@@ -45,6 +49,12 @@ abbrev pub layout_stop : LayoutStop → Stop
 layout_stop (laying.Brace at) = refused_at kind.Brace at
 layout_stop laying.Want = stop.Want
 
+-- what a stop of the parser is for a program
+abbrev pub parser_stop : ParseStop → Stop
+parser_stop (parsing.Syntax at) = refused_at kind.Syntax at
+parser_stop (parsing.Nesting at) = stop.Limit (limit.Nesting which.Program at)
+parser_stop parsing.Want = stop.Want
+
 -- the place where a next byte would stand
 abbrev pub end_place : List ℕ → At
 end_place text = behind_all first_place text
@@ -55,23 +65,46 @@ pub record HasLayout (text : List ℕ) (laid : List Token) : Type 0 where
   pub lexed : Lexes form.Program text (Ok tokens)
   pub laid_out : laid_out tokens (end_place text) ≡ Ok laid
 
+-- the laid-out tokens are a program of the language, and spell the tree
+pub record SpellsLaid (laid : List Token) (tree : Tree) : Type 0 where
+  pub whole : program.Tree
+  pub parsed : IsParsed laid whole
+  pub program : IsProgram laid tree
+
 -- the text spells the tree
 pub record SpellsTree (text : List ℕ) (tree : Tree) : Type 0 where
   pub laid : List Token
   pub layout : HasLayout text laid
-  pub program : IsProgram laid tree
+  pub spelled : SpellsLaid laid tree
 
--- why a text spells no tree, whatever its length: its lexemes or its layout are refused, it has too many lexemes, or it is
+-- why laid-out tokens spell no tree: no program goes on with one of them, one nests too deep, or they are a program, but
 -- not of the form that is built
-pub data IsStopped (text : List ℕ) : Stop → Type 0 where
-  lexemes : (s : LexStop) → Lexes form.Program text (Err s) → (s ≡ lex.Want → ⊥) → IsStopped text (lexer_stop s)
-  layout : (tokens : List Token) (at : At) → Lexes form.Program text (Ok tokens) → laid_out tokens (end_place text) ≡ Err at → IsStopped text (layout_stop (laying.Brace at))
-  not_built : (laid : List Token) → HasLayout text laid → SpellsNone laid → IsStopped text not_yet
+pub data StopsLaid (laid : List Token) (end : At) : Stop → Type 0 where
+  syntax_at : (at : At) → IsSyntax laid end at → StopsLaid laid end (parser_stop (parsing.Syntax at))
+  nesting_at : (at : At) → IsNesting laid end at → StopsLaid laid end (parser_stop (parsing.Nesting at))
+  not_built : (whole : program.Tree) → IsParsed laid whole → SpellsNone laid → StopsLaid laid end not_yet
 
--- the lexemes, the layout or the form of a text are refused
+-- why a text has no laid-out tokens: its lexemes or its layout are refused, or it has too many lexemes
+pub data LacksLayout (text : List ℕ) : Stop → Type 0 where
+  lexemes : (s : LexStop) → Lexes form.Program text (Err s) → (s ≡ lex.Want → ⊥) → LacksLayout text (lexer_stop s)
+  layout : (tokens : List Token) (at : At) → Lexes form.Program text (Ok tokens) → laid_out tokens (end_place text) ≡ Err at → LacksLayout text (layout_stop (laying.Brace at))
+
+-- why a text spells no tree, whatever its length: it has no laid-out tokens, or these spell none
+pub data IsStopped (text : List ℕ) : Stop → Type 0 where
+  no_tokens : (s : Stop) → LacksLayout text s → IsStopped text s
+  laid_tokens : (laid : List Token) (s : Stop) → HasLayout text laid → StopsLaid laid (end_place text) s → IsStopped text s
+
+-- the lexemes, the layout, the syntax or the form of a text are refused
 abbrev pub IsRefused : List ℕ → Type 0
 IsRefused text = (r : Refusal) × IsStopped text (stop.Refused r)
 
--- a text passes a limit: it has too many bytes, or too many lexemes
+-- a token of a text nests too deep, and no token up to it is refused
+pub record NestsTooDeep (text : List ℕ) : Type 0 where
+  pub laid : List Token
+  pub layout : HasLayout text laid
+  pub at : At
+  pub nesting : IsNesting laid (end_place text) at
+
+-- a text passes a limit: it has too many bytes, or too many lexemes, or nests too deep
 abbrev pub PassesLimit : List ℕ → Type 0
-PassesLimit text = (most_bytes < length text) ⊎ ((at : At) × Lexes form.Program text (Err (lex.Tokens at)))
+PassesLimit text = (most_bytes < length text) ⊎ (((at : At) × Lexes form.Program text (Err (lex.Tokens at))) ⊎ NestsTooDeep text)

@@ -14,6 +14,7 @@ mod laws;
 mod lexemes;
 mod machine;
 mod parser;
+mod prelude;
 mod reader;
 mod report;
 mod status;
@@ -22,4 +23,5 @@ mod words;
 
 pub use job::serve;
 pub use laws::one_due;
+pub use prelude::prelude_tree;
 pub use status::{LIMIT, NOT_READ, NOT_WRITTEN, REFUSED, TRAP, USAGE, VALUE, WANT};

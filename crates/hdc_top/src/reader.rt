@@ -2,14 +2,15 @@
 
 ghost use Rattle.std.specs.Prelude.{◌≡◌, ◌≤◌, ℕ, length};
 ghost use Rattle.hdc_top.specs.declared.reader.ReadStop.TheVariants as stop;
-ghost use Rattle.hdc_top.specs.Stopped.{layout_stop, lexer_stop, not_yet, refused_at};
-ghost use Rattle.hdc_top.specs.Results.{ReadsProgram, ReadsText, ReadsTokens};
+ghost use Rattle.hdc_top.specs.Stopped.{layout_stop, lexer_stop, not_yet, parser_stop, refused_at};
+ghost use Rattle.hdc_top.specs.Results.{LaysText, ReadsLaid, ReadsProgram, ReadsText};
 
 use crate::lexemes::{arithmetic, between_braces};
 use crate::parser::parse;
 use hdc_base::{At, Kind, Limit, Refusal, Stop, Token, Tokens, Which};
 use hdc_layout::{LayoutStop, lay_out};
 use hdc_lex::{Form, LexStop, end_of, lex};
+use hdc_parse::ParseStop;
 use hdc_tree::Exp;
 use std::alloc::{AllocError, AllocFailed, Global};
 
@@ -38,33 +39,48 @@ impl<T: Drop> From<AllocFailed<T>> for ReadStop {
     }
 }
 
-/// The tree that a text spells, or why it spells none: a refusal of its lexemes or of its layout, the
-/// limit on lexemes, or that it is not of the form that is built.
+/// The tree that a text spells, or why it spells none: a refusal of its lexemes, its layout or its syntax,
+/// the limit on lexemes or on nesting, or that it is not of the form that is built.
 pub fn read(alloc: Global, text: &[u8]) -> Result<Exp, Stop>
     requires { length text.now ≤ 1048576 }
     ensures { ReadsText text.now result }
 {
+    match laid_tokens(alloc, text) {
+        Ok(laid) => parse_and_read(alloc, laid.as_slice(), end_of(text)),
+        Err(stop) => Err(stop),
+    }
+}
+
+/// The laid-out tokens of a text, or why it has none: a refusal of its lexemes or its layout, or the limit
+/// on lexemes.
+pub(crate) fn laid_tokens(alloc: Global, text: &[u8]) -> Result<Tokens, Stop>
+    requires { length text.now ≤ 1048576 }
+    ensures { LaysText text.now result }
+{
     match lex(alloc, text, Form::Program) {
-        Ok(tokens) => lay_out_and_read(alloc, tokens, end_of(text)),
+        Ok(tokens) => match lay_out(alloc, tokens, end_of(text)) {
+            Ok(laid) => Ok(laid),
+            Err(stop) => Err(layout_stop(stop)),
+        },
         Err(stop) => Err(lexer_stop(stop)),
     }
 }
 
-// The tree of the tokens of a text.
-fn lay_out_and_read(alloc: Global, tokens: Tokens, end: At) -> Result<Exp, Stop>
-    ensures { ReadsTokens tokens end result }
+// The tree of laid-out tokens, behind which the text ends.
+fn parse_and_read(alloc: Global, laid: &[Token], end: At) -> Result<Exp, Stop>
+    ensures { ReadsLaid laid.now end result }
 {
-    match lay_out(alloc, tokens, end) {
-        Ok(laid) => match program(alloc, laid.as_slice()) {
+    match hdc_parse::parse(alloc, laid, end) {
+        Ok(_whole) => match program(alloc, laid) {
             Ok(tree) => Ok(tree),
             Err(ReadStop::NotYet) => Err(not_yet()),
             Err(ReadStop::Want) => Err(Stop::Want),
         },
-        Err(stop) => Err(layout_stop(stop)),
+        Err(stop) => Err(parser_stop(stop)),
     }
 }
 
-// The tree of laid-out tokens.
+// The tree of a program's laid-out tokens.
 fn program(alloc: Global, laid: &[Token]) -> Result<Exp, ReadStop>
     ensures { ReadsProgram laid.now result }
 {
@@ -109,5 +125,15 @@ fn layout_stop(stop: LayoutStop) -> Stop
     match stop {
         LayoutStop::Brace(at) => refused(Kind::Brace, at),
         LayoutStop::Want => Stop::Want,
+    }
+}
+
+fn parser_stop(stop: ParseStop) -> Stop
+    ensures { result ≡ parser_stop stop }
+{
+    match stop {
+        ParseStop::Syntax(at) => refused(Kind::Syntax, at),
+        ParseStop::Nesting(at) => Stop::Limit(Limit::Nesting(Which::Program, at)),
+        ParseStop::Want => Stop::Want,
     }
 }

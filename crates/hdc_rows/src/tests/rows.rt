@@ -203,45 +203,161 @@ fn each_fault_and_trap_has_its_place(rt: HostRuntime) -> Result<(), Fail> {
     Ok(())
 }
 
-const OTHERS: [&str; 29] = [
+// Programs of the language that are not of the form that is built.
+const NOT_BUILT: [&str; 17] = [
     "",
-    "main",
-    "main =",
     "main = x",
-    "main = 1 +",
-    "main = + 1",
     "main = - 1",
     "main = 1 2",
-    "main = 1 + * 2",
     "main = 1 --> 2",
     "main = 1 - - 2",
     "main = (-1)",
-    "main == 1",
     "main1 = 1",
     "main = 1\nmain = 2",
-    "main =\n1",
-    "main = (1\n+ 2)",
     "mai = 1",
     "{ main = 1; }",
-    "module main where main = 1",
     "main = 'a'",
     "main = \"a\"",
     "main = ()",
-    "main = (1",
-    "main = 1)",
-    "main = )1(",
     "main = (1) (2)",
     "main = (1 +) 2",
     "main = let in 1",
 ];
 
 #[test]
-fn other_texts_are_refused(rt: HostRuntime) -> Result<(), Fail> {
-    for text in OTHERS {
+fn other_programs_are_not_built(rt: HostRuntime) -> Result<(), Fail> {
+    for text in NOT_BUILT {
         let left = left(rt.alloc(), text.as_bytes())?;
         assert_eq!(rt; left.status, 1, "of {text}");
         assert_eq!(rt; left.output.as_slice(), NOT_YET.as_bytes(), "of {text}");
     }
+    Ok(())
+}
+
+#[test]
+fn a_chain_may_be_long(rt: HostRuntime) -> Result<(), Fail> {
+    let mut text = Vec::from_slice(rt.alloc(), b"main = ")?;
+    for _ in 0..1024 {
+        text.extend_from_slice(b"1 : ")?;
+    }
+    text.extend_from_slice(b"[]")?;
+    let left = left(rt.alloc(), text.as_slice())?;
+    assert_eq!(rt; left.status, 1);
+    assert_eq!(rt; left.output.as_slice(), NOT_YET.as_bytes());
+    Ok(())
+}
+
+// Texts that are no program, and the place where that shows.
+const SYNTAX: [(&str, &str); 49] = [
+    ("main", "1:5"),
+    ("main =", "1:7"),
+    ("main = 1 +", "1:11"),
+    ("main = (1 +", "1:12"),
+    ("main = + 1", "1:8"),
+    ("main = 1 + * 2", "1:12"),
+    ("main == 1", "1:10"),
+    ("main =\n1", "2:1"),
+    ("main = (1\n+ 2)", "2:1"),
+    ("module main where main = 1", "1:8"),
+    ("main = (1", "1:10"),
+    ("main = 1)", "1:9"),
+    ("main = )1(", "1:8"),
+    // The eighth member of a tuple, and a precedence of two digits.
+    ("main = (1,2,3,4,5,6,7,8)", "1:22"),
+    ("infixl 10 +\nmain = 1", "1:8"),
+    // No alternative, no `else`, and no pattern behind a backslash.
+    ("main = case 1 of { }", "1:20"),
+    ("main = if 1 then 2", "1:19"),
+    ("main = \\ -> 1", "1:10"),
+    // No pattern is bound at top level.
+    ("x : xs = 1", "1:3"),
+    ("(x, y) = 1", "1:8"),
+    ("Just x = 1", "1:6"),
+    // The further of two readings of a qualifier.
+    ("main = [x | x + y <- z]", "1:19"),
+    ("main = [x | x <- )", "1:18"),
+    ("main = [x | (x, 1 + 2) <- z]", "1:24"),
+    // A name of symbols that begins with a colon, a reserved word, and a section's second operator.
+    ("main = 1 :+ 2", "1:10"),
+    ("class A", "1:1"),
+    ("main = (1 + +)", "1:13"),
+    // The eighth member of a tuple of types and of patterns.
+    ("f :: (a,a,a,a,a,a,a,a)", "1:20"),
+    ("f (a,b,c,d,e,f,g,h) = 1", "1:17"),
+    // Operators that have no fixity declaration, alternatives that are all empty, and a section of `-`.
+    ("infixr 5 :", "1:10"),
+    ("infixr 5 `K`", "1:11"),
+    ("main = case 1 of { ; }", "1:22"),
+    ("main = case 1 of", "1:17"),
+    ("main = (- - 1)", "1:11"),
+    // An open operand behind a function, and a token behind the program.
+    ("main = f \\x -> x", "1:10"),
+    ("{ main = 1 } x", "1:14"),
+    // What other languages of this family have.
+    ("import A", "1:1"),
+    ("f :: Eq a => a", "1:11"),
+    ("f ~x = 1", "1:3"),
+    ("f (n + 1) = n", "1:6"),
+    ("main = (1 :: Int)", "1:11"),
+    ("main = do x", "1:8"),
+    ("data T = T { x :: Int }", "1:12"),
+    ("data T = A :+ B", "1:12"),
+    ("main = (,) 1 2", "1:9"),
+    ("main = [1, 2 .. 3]", "1:14"),
+    ("main = [1 ..]", "1:13"),
+    ("main = let infixl 6 + in 1", "1:12"),
+    ("Just x + y = 1", "1:6"),
+];
+
+#[test]
+fn what_is_no_program_is_refused_at_its_place(rt: HostRuntime) -> Result<(), Fail> {
+    for (text, place) in SYNTAX {
+        let left = left(rt.alloc(), text.as_bytes())?;
+        let line = format!(in rt.alloc(); "refused syntax at {place}\n")?;
+        assert_eq!(rt; left.status, 1, "of {text}");
+        assert_eq!(rt; left.output.as_slice(), line.as_bytes(), "of {text}");
+    }
+    Ok(())
+}
+
+// `main =` and so many open parentheses, and then a text.
+fn parentheses(alloc: Global, count: usize, end: &[u8]) -> Result<Vec<u8>, AllocError> {
+    let mut text = Vec::new(alloc);
+    text.extend_from_slice(b"main = ")?;
+    for _ in 0..count {
+        text.extend_from_slice(b"(")?;
+    }
+    text.extend_from_slice(end)?;
+    Ok(text)
+}
+
+#[test]
+fn tokens_nest_256_deep(rt: HostRuntime) -> Result<(), Fail> {
+    let rows: [(usize, &[u8], u8, &str); 6] = [
+        // The number stands 256 deep, or one deeper.
+        (255, b"1", 1, "refused syntax at 1:264\n"),
+        (256, b"1", 8, "limit nesting at 1:264\n"),
+        (300, b"1", 8, "limit nesting at 1:264\n"),
+        // At one token the syntax is refused, and at an earlier one too.
+        (256, b"=", 1, "refused syntax at 1:264\n"),
+        (255, b"= (", 1, "refused syntax at 1:263\n"),
+        // Behind a backslash a token nests one deeper.
+        (255, b"\\x -> 1", 8, "limit nesting at 1:264\n"),
+    ];
+    for (count, end, status, line) in rows {
+        let text = parentheses(rt.alloc(), count, end)?;
+        let left = left(rt.alloc(), text.as_slice())?;
+        assert_eq!(rt; left.status, status, "of {line}");
+        assert_eq!(rt; left.output.as_slice(), line.as_bytes(), "of {line}");
+    }
+    let mut text = Vec::from_slice(rt.alloc(), b"main = ")?;
+    push_deep(&mut text, 300)?;
+    let left = left(rt.alloc(), text.as_slice())?;
+    assert_eq!(rt; left.status, 8);
+    assert_eq!(rt;
+        left.output.as_slice(),
+        b"limit nesting at 1:264\n".as_slice()
+    );
     Ok(())
 }
 
@@ -258,8 +374,8 @@ fn lexemes(alloc: Global, count: usize, end: &[u8]) -> Result<Vec<u8>, AllocErro
 #[test]
 fn there_may_be_131072_lexemes(rt: HostRuntime) -> Result<(), Fail> {
     let rows: [(&[u8], u8, &str); 5] = [
-        (b"", 1, "refused notyet at 1:1\n"),
-        (b"-- 1", 1, "refused notyet at 1:1\n"),
+        (b"", 1, "refused syntax at 1:3\n"),
+        (b"-- 1", 1, "refused syntax at 1:3\n"),
         (b"}", 8, "limit tokens at 1:262145\n"),
         (b"1.5", 1, "refused literal at 1:262145\n"),
         (b"\x80", 1, "refused byte at 1:262145\n"),

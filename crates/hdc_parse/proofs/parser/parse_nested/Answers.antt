@@ -3,7 +3,7 @@ use Rattle.std.proofs.lemmas.Bool.Decides.{nat_tests}
 use Rattle.hdc_syntax.specs.declared.stop.Stop.TheVariants.{Syntax}
 use Rattle.hdc_parse.specs.ProgramReader.{program}
 use Rattle.hdc_parse.specs.Exact.{IsSyntax, IsNesting, place_of}
-use Rattle.hdc_parse.proofs.Answering.{syntax_read, left_within, count_within, ok_nested, end_nested, part_nested}
+use Rattle.hdc_parse.proofs.Answering.{syntax_read, left_within, count_within, ok_nested, end_nested, part_nested, nested_never_deep, deep_read}
 use Rattle.hdc_parse.proofs.parser.parse_nested.Goals as goal
 
 pub overflow_sub-index : goal.overflow_sub-index
@@ -29,3 +29,6 @@ returns-in-Syntax c =
     let some : 0 < c.in-Syntax.left = first_of (omega (arith, test), grind (arith, nat_tests, test)) in
     subst (λ at. IsSyntax c.args.tokens.now c.args.end at) (sym c.place_of-in-Syntax.ensures)
     (part_nested _ c.args.tokens.now c.args.end c.args.index c.in-Syntax.left c.requires.past c.requires.regular some (syntax_read _ c.in-Err.stop c.in-Syntax.left c.in-Err.ensures c.in-Syntax.is))
+
+pub unreachable-requires : goal.unreachable-requires
+unreachable-requires c = nested_never_deep c.args.tokens.now c.args.index c.requires.past (deep_read _ c.in-Err.stop c.in-Err.ensures c.in-Deep.is)

@@ -2,7 +2,7 @@ use Rattle.std.proofs.Common.{◌≡◌, ◌+◌, ◌-◌, ◌<◌, ◌≤◌, l
 use Rattle.hdc_parse.specs.ProgramReader.{program}
 use Rattle.hdc_parse.specs.Exact.{IsParsed, IsSyntax, place_of}
 use Rattle.hdc_syntax.specs.Regular.{regular_count}
-use Rattle.hdc_parse.proofs.Answering.{syntax_read, left_within, count_within, parsed_answer, ok_irregular, syntax_answer}
+use Rattle.hdc_parse.proofs.Answering.{syntax_read, left_within, count_within, parsed_answer, ok_irregular, syntax_answer, regular_never_deep, deep_read}
 use Rattle.hdc_parse.proofs.parser.parse_regular.Goals as goal
 
 pub overflow_sub-regular : goal.overflow_sub-regular
@@ -29,3 +29,8 @@ returns-in-Syntax c =
     let count = c.requires.count in
     subst (λ at. IsSyntax c.args.tokens.now c.args.end at) (sym (c.place_of-in-Syntax.ensures ∙ ap (λ n. place_of c.args.tokens.now c.args.end (n - c.in-Syntax.left)) count))
     (syntax_answer _ c.args.tokens.now c.args.end c.in-Syntax.left (λ k lt. c.requires.nests k (omega (arith, lt, count))) (rw count at (syntax_read _ c.in-Err.stop c.in-Syntax.left c.in-Err.ensures c.in-Syntax.is)))
+
+pub unreachable-requires : goal.unreachable-requires
+unreachable-requires c =
+    let count = c.requires.count in
+    regular_never_deep c.args.tokens.now (λ k lt. c.requires.nests k (omega (arith, lt, count))) (rw count at (deep_read _ c.in-Err.stop c.in-Err.ensures c.in-Deep.is))

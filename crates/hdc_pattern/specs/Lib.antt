@@ -1,2 +1,0 @@
-pub mod PatternReader
-pub mod TypeReader
