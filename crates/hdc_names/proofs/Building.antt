@@ -231,3 +231,65 @@ pub all_read : (s : Bool) (rest : List NextOperand) (i : ℕ) (p : Progress) (st
 all_read s rest i p steps all end written =
     let ends : rest_read 1 rest (start s) ≡ Ok p = all ∙ ap (λ z. rest_read (suc i) z p) end in
     subst (λ z. IsBuilt s rest z) (sym written) (subst (λ r. Answered s rest r) ends (started s rest))
+
+-- ---- a chain has a tree up to each operand, where it has one
+
+-- an operand was the last that was read
+abbrev ReadOperand : Option (State ℕ Numbered ℕ) → Type 0
+ReadOperand None = Unit {0}
+ReadOperand (Some (wants ws)) = ⊥
+ReadOperand (Some (has ws a)) = Unit {0}
+
+sign_read : (t : Taker) (w : Waiting ℕ Numbered ℕ) (ws : List (Waiting ℕ Numbered ℕ)) (k : ℕ) → ReadOperand (option_and_then (λ n. read binds n (operand k ∷ [])) (taken t None (Some (wants (signed k ∷ w ∷ ws)))))
+sign_read First w ws k = tt
+sign_read Second w ws k = tt
+sign_read Unclear w ws k = tt
+
+operand_read : (b : Bool) (w : Waiting ℕ Numbered ℕ) (ws : List (Waiting ℕ Numbered ℕ)) (k : ℕ) → ReadOperand (read binds (wants (w ∷ ws)) (signed_operand b k))
+operand_read true w ws k = sign_read (taker (fixity_of binds w) sign) w ws k
+operand_read false w ws k = tt
+
+behind_read : (n : NextOperand) (k : ℕ) (found : Option (List (Waiting ℕ Numbered ℕ) × Tree)) → ReadOperand (option_and_then (λ s. read binds s (signed_operand n.signed k)) (behind_left binds (record { number = k; fixity = n.fixity }) found))
+behind_read n k None = tt
+behind_read n k (Some (ws, l)) = operand_read n.signed (behind l (record { number = k; fixity = n.fixity })) ws k
+
+next_by : (r : Option (State ℕ Numbered ℕ)) (xs : List Piece) → ReadOperand r → ((ws : List (Waiting ℕ Numbered ℕ)) (a : ℕ) → ReadOperand (read binds (has ws a) xs)) → ReadOperand (option_and_then (λ m. read binds m xs) r)
+next_by None xs h again = tt
+next_by (Some (wants ws)) xs h again = absurd h
+next_by (Some (has ws a)) xs h again = again ws a
+
+rest_operand : (ns : List NextOperand) (k : ℕ) (ws : List (Waiting ℕ Numbered ℕ)) (a : ℕ) → ReadOperand (read binds (has ws a) (pieces_from k ns))
+rest_operand [] k ws a = tt
+rest_operand (n ∷ ns) k ws a =
+    subst ReadOperand (sym (read_append (has ws a) (next_pieces k n) (pieces_from (suc k) ns)))
+    (next_by (read binds (has ws a) (next_pieces k n)) (pieces_from (suc k) ns) (behind_read n k (left_of binds ws (leaf a) n.fixity)) (λ ws a. rest_operand ns (suc k) ws a))
+
+all_operand : (s : Bool) (ns : List NextOperand) → ReadOperand (read binds (wants []) (pieces s ns))
+all_operand true ns = rest_operand ns 1 (signed 0 ∷ []) 0
+all_operand false ns = rest_operand ns 1 [] 0
+
+from_split : (k j : ℕ) (ns : List NextOperand) → pieces_from j ns ≡ pieces_from j (take k ns) ++ pieces_from (j + k) (drop k ns)
+from_split zero j ns = ap (λ i. pieces_from i ns) (omega arith)
+from_split (suc k) j [] = refl
+from_split (suc k) j (n ∷ ns) =
+    let at : suc j + k ≡ j + suc k = omega arith in
+    ap (λ z. operator (record { number = j; fixity = n.fixity }) ∷ (signed_operand n.signed j ++ z)) (from_split k (suc j) ns ∙ ap (λ i. pieces_from (suc j) (take k ns) ++ pieces_from i (drop k ns)) at)
+    ∙ ap (λ z. operator (record { number = j; fixity = n.fixity }) ∷ z) (sym (append_assoc (signed_operand n.signed j) (pieces_from (suc j) (take k ns)) (pieces_from (j + suc k) (drop k ns))))
+
+split : (s : Bool) (k : ℕ) (ns : List NextOperand) → pieces s ns ≡ pieces s (take k ns) ++ pieces_from (1 + k) (drop k ns)
+split s k ns = ap (λ z. signed_operand s 0 ++ z) (from_split k 1 ns) ∙ sym (append_assoc (signed_operand s 0) (pieces_from 1 (take k ns)) (pieces_from (1 + k) (drop k ns)))
+
+front_by : (s : Bool) (front : List NextOperand) (r : Option (State ℕ Numbered ℕ)) (xs : List Piece) (t : Tree) → read binds (wants []) (pieces s front) ≡ r → ReadOperand r → tree_in (option_and_then (λ m. read binds m xs) r) ≡ Some t → (u : Tree) × IsTreeOf s front u
+front_by s front None xs t e h whole = absurd cc
+front_by s front (Some (wants ws)) xs t e h whole = absurd h
+front_by s front (Some (has ws a)) xs t e h whole = (finish ws (leaf a), reached_tree s front ws a e)
+
+-- where a chain has a tree, it has one up to each of its operands
+pub front_tree : (s : Bool) (rest : List NextOperand) (k : ℕ) (t : Tree) → IsTreeOf s rest t → (u : Tree) × IsTreeOf s (take k rest) u
+front_tree s rest k t h =
+    let whole = ap tree_in (sym (read_append (wants []) (pieces s (take k rest)) (pieces_from (1 + k) (drop k rest))) ∙ ap (read binds (wants [])) (sym (split s k rest))) ∙ grouped_only binds (pieces s rest) t h in
+    front_by s (take k rest) (read binds (wants []) (pieces s (take k rest))) (pieces_from (1 + k) (drop k rest)) t refl (all_operand s (take k rest)) whole
+
+-- so a chain that has none up to one of them has none
+pub no_tree : (s : Bool) (rest : List NextOperand) (k : ℕ) → HasNoTree s rest k → (t : Tree) → IsTreeOf s rest t → ⊥
+no_tree s rest k h t g = let u = front_tree s rest k t g in h.none u.0 u.1

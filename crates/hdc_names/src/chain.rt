@@ -30,7 +30,8 @@ pub enum Step {
 /// Why a chain has no tree.
 #[derive(Clone, Copy, Debug, PartialEq, Eq)]
 pub enum ChainStop {
-    /// Up to the operand of this number, and up to none before it, the chain has no tree.
+    /// Up to the operand of this number, and up to none before it, the chain has no tree. The last operator up
+    /// to there is the operand's sign, or else the operator before it.
     NoTree(usize),
     /// Want of memory.
     Want,

@@ -1,12 +1,12 @@
 //! Chains and how their trees are built, worked out by hand.
 
-use super::{ChainStop, Fixity, NextOperand, Step, one_tree, steps};
+use super::{ChainStop, Fixity, NextOperand, Step, no_tree_behind, one_tree, steps};
 use hdc_tree::Associativity;
 use std::alloc::{AllocError, Global};
 use std::test::Fail;
 
-// An operator's fixity: `$` is infixr 0, `=` infix 4, `:` infixr 5, `#` infixl 5, `+` and `-` infixl 6, `*`
-// infixl 7, and any other infixr 9.
+// An operator's fixity: `$` is infixr 0, `=` infix 4, `:` infixr 5, `#` infixl 5, `+` and `-` infixl 6, `&`
+// infixr 6, `!` infix 6, `*` infixl 7, and any other infixr 9.
 fn fixity(operator: u8) -> Fixity {
     let (precedence, associativity) = match operator {
         b'$' => (0, Associativity::Right),
@@ -14,6 +14,8 @@ fn fixity(operator: u8) -> Fixity {
         b':' => (5, Associativity::Right),
         b'#' => (5, Associativity::Left),
         b'+' | b'-' => (6, Associativity::Left),
+        b'&' => (6, Associativity::Right),
+        b'!' => (6, Associativity::Neither),
         b'*' => (7, Associativity::Left),
         _ => (9, Associativity::Right),
     };
@@ -97,6 +99,7 @@ const BUILT: [(&str, &str); 14] = [
 #[test]
 fn each_chain_is_built_by_its_steps(rt: HostRuntime) -> Result<(), Fail> {
     one_tree();
+    no_tree_behind();
     for (text, steps) in BUILT {
         match written(rt.alloc(), text) {
             Ok(found) => assert_eq!(rt; found.as_slice(), steps.as_bytes(), "of {text}"),
@@ -106,7 +109,7 @@ fn each_chain_is_built_by_its_steps(rt: HostRuntime) -> Result<(), Fail> {
     Ok(())
 }
 
-const WITHOUT: [(&str, usize); 9] = [
+const WITHOUT: [(&str, usize); 15] = [
     ("a=b=c", 2),
     ("a=b=c=d", 2),
     ("a=b+c=d", 3),
@@ -116,6 +119,12 @@ const WITHOUT: [(&str, usize); 9] = [
     ("a#b:c", 2),
     ("a:b#c", 2),
     ("a+b:c#d", 3),
+    ("a&-b", 1),
+    ("-a&b", 1),
+    ("a!-b", 1),
+    ("-a!b", 1),
+    ("a!b+c", 2),
+    ("a&b!c", 2),
 ];
 
 #[test]
