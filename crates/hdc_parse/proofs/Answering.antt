@@ -1,11 +1,10 @@
 -- What the parser of a program answers on a part of the tokens tells the answer for them all.
-use Rattle.std.proofs.Common.{◌≡◌, ◌≢◌, ℕ, zero, suc, ◌+◌, ◌-◌, ◌<◌, ◌≤◌, ◌⊎◌, Bool, true, false, cond, List, [], ◌∷◌, ◌++◌, length, take, drop, Result, Ok, Err, inl, inr, refl, sym, ◌∙◌, ap, subst, arith, append-nil, take-append-drop}
+use Rattle.std.proofs.Common.{◌≡◌, ◌≢◌, ℕ, zero, suc, ◌+◌, ◌-◌, ◌<◌, ◌≤◌, ◌⊎◌, Bool, true, false, cond, List, [], ◌∷◌, ◌++◌, length, take, drop, Ok, Err, inl, inr, refl, sym, ◌∙◌, ap, subst, arith, take-append-drop}
 use Rattle.std.specs.List.{take_while}
-use Rattle.std.proofs.lemmas.List.{length-take}
 use Rattle.std.proofs.lemmas.List.Sums.{take_while-cons}
 use Rattle.hdc_base.specs.declared.place.At.{At}
 use Rattle.hdc_base.specs.declared.token.Token.{Token}
-use Rattle.hdc_nesting.specs.Nesting.{nesting, IsFirstPast, NonePasses}
+use Rattle.hdc_nesting.specs.Nesting.{nesting, IsFirstPast}
 use Rattle.hdc_tree.specs.declared.program.Tree.{Tree}
 use Rattle.hdc_tree.specs.ProgramSpelling.{spell}
 use Rattle.hdc_tree.specs.ProgramForm.{formed_tree}
@@ -13,16 +12,14 @@ use Rattle.hdc_syntax.specs.declared.stop.Stop.{Stop}
 use Rattle.hdc_syntax.specs.declared.stop.Stop.TheVariants.{Want, Deep, Syntax}
 use Rattle.hdc_syntax.specs.Parser.{Outcome}
 use Rattle.hdc_syntax.specs.Regular.{regular, all_regular, regular_count}
-use Rattle.hdc_syntax.proofs.Good.{ok_same}
 use Rattle.hdc_syntax.proofs.Tests.{both}
 use Rattle.hdc_parse.specs.ProgramReader.{program}
-use Rattle.hdc_parse.specs.Exact.{IsWellFormed, Begun, Blocked, Fails, most_nesting, place_of, IsParsed, IsSyntax, IsNesting}
+use Rattle.hdc_parse.specs.Exact.{Begun, Fails, most_nesting, place_of, IsParsed, IsSyntax, IsNesting}
 use Rattle.hdc_parse.proofs.Exact as exact
 use Rattle.hdc_parse.proofs.ProgramWords.{program_rest}
 use Rattle.hdc_parse.proofs.Whole.{good_whole, local_whole, again_whole, ample_whole}
 use Rattle.hdc_nesting.specs.Counts.{no_counts}
-use Rattle.hdc_syntax.proofs.Ample.{Fits}
-use Rattle.hdc_parse.proofs.Fitting.{fits_all, fits_any, first_past_nests, nesting_part}
+use Rattle.hdc_parse.proofs.Fitting.{fits_all, first_past_nests, nesting_part}
 
 -- ---- regular tokens
 

@@ -1,6 +1,6 @@
 -- Which alternatives are not empty.
 use Rattle.std.proofs.Common.{◌≡◌, ap, sym, ◌∙◌}
-use Rattle.hdc_tree.specs.declared.expression.NextAlt.{NextAlt, roll-NextAlt, out-NextAlt, roll-out-NextAlt}
+use Rattle.hdc_tree.specs.declared.expression.NextAlt.{NextAlt, out-NextAlt, roll-out-NextAlt}
 use Rattle.hdc_tree.specs.ExpressionForm.{filled_alt, filled_next_alt}
 use Rattle.hdc_tree.proofs.ExpressionFormed.{filled_alt_blank, filled_alt_arrow, filled_alt_guarded, filled_next_alt_made}
 

@@ -1,13 +1,9 @@
 -- Tokens have one answer: a program, a place where no spelling goes on, or a token that nests too deep.
-use Rattle.std.proofs.Common.{◌≡◌, ℕ, zero, suc, ◌+◌, ◌-◌, ◌<◌, ◌≤◌, ◌⊎◌, Bool, true, false, List, [], ◌∷◌, ◌++◌, length, take, drop, inl, inr, refl, sym, ◌∙◌, ap, subst, arith, append-nil, append_assoc, take-append-drop}
-use Rattle.std.proofs.lemmas.List.{length-take}
-use Rattle.std.proofs.lemmas.Bool.Decides.{nat_tests}
+use Rattle.std.proofs.Common.{◌≡◌, ℕ, zero, suc, ◌+◌, ◌<◌, ◌≤◌, ◌⊎◌, List, [], ◌∷◌, ◌++◌, length, take, drop, inl, inr, refl, sym, ◌∙◌, ap, subst, arith, append-nil, append_assoc}
 use Rattle.hdc_base.specs.declared.place.At.{At}
 use Rattle.hdc_base.specs.declared.token.Token.{Token}
-use Rattle.hdc_nesting.specs.Nesting.{nesting, IsFirstPast, NonePasses}
 use Rattle.hdc_tree.specs.declared.program.Tree.{Tree}
-use Rattle.hdc_tree.specs.ProgramSpelling.{spell}
-use Rattle.hdc_parse.specs.Exact.{IsWellFormed, Begun, Blocked, Fails, most_nesting, place_of, IsParsed, IsSyntax, IsNesting}
+use Rattle.hdc_parse.specs.Exact.{Begun, Blocked, Fails, place_of, IsParsed, IsSyntax, IsNesting}
 
 -- what begins with more begins with less
 begun_less : (v w : List Token) → Begun (v ++ w) → Begun v

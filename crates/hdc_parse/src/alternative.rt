@@ -86,14 +86,14 @@ fn arrow_alt<
     E: Fn(&mut Cursor<'_>, usize, usize, bool, Sign) -> Result<(Expression, Option<Op>), Stop>,
     B: Fn(&mut Cursor<'_>, usize, usize) -> Result<Block, Stop>,
     A: Fn(&mut Cursor<'_>, usize, usize) -> Result<Alts, Stop>,
->(grammar: &Grammar<E, B, A>, tokens: &mut Cursor<'_>, pat: Pat) -> Result<Alt, Stop>
+>(grammar: &Grammar<E, B, A>, tokens: &mut Cursor<'_>, pat: Boxed<Pat>) -> Result<Alt, Stop>
     requires { Nests grammar.now.turns grammar.now.depth (E.pre grammar.now.exp) (E.post grammar.now.exp) (B.pre grammar.now.block) (B.post grammar.now.block) (A.pre grammar.now.alts) (A.post grammar.now.alts) }
     ensures { Reads (reader.arrow_alt grammar.now.turns (nested grammar.now.turns grammar.now.depth) pat tokens.old.rest.now) result tokens.new.rest.now }
 {
     let arrow = tokens.key(Key::KRightArrow)?;
     let exp = Boxed::new(tokens.alloc, grammar.whole(tokens)?)?;
     let decls = local(grammar, tokens)?;
-    Ok(Alt::Arrow(pat, arrow, exp, decls))
+    Ok(Alt::Arrow(pat.into_inner(), arrow, exp, decls))
 }
 
 #[tactic(auto, unfolding(hdc_expression::specs::DeclarationReader::guarded_alt))]
@@ -101,14 +101,14 @@ fn guarded_alt<
     E: Fn(&mut Cursor<'_>, usize, usize, bool, Sign) -> Result<(Expression, Option<Op>), Stop>,
     B: Fn(&mut Cursor<'_>, usize, usize) -> Result<Block, Stop>,
     A: Fn(&mut Cursor<'_>, usize, usize) -> Result<Alts, Stop>,
->(grammar: &Grammar<E, B, A>, tokens: &mut Cursor<'_>, pat: Pat) -> Result<Alt, Stop>
+>(grammar: &Grammar<E, B, A>, tokens: &mut Cursor<'_>, pat: Boxed<Pat>) -> Result<Alt, Stop>
     requires { Nests grammar.now.turns grammar.now.depth (E.pre grammar.now.exp) (E.post grammar.now.exp) (B.pre grammar.now.block) (B.post grammar.now.block) (A.pre grammar.now.alts) (A.post grammar.now.alts) }
     ensures { Reads (reader.guarded_alt grammar.now.turns (nested grammar.now.turns grammar.now.depth) pat tokens.old.rest.now) result tokens.new.rest.now }
 {
     let first = Boxed::new(tokens.alloc, arrow_guard(grammar, tokens)?)?;
     let rest = arrow_guards(grammar, tokens)?;
     let decls = local(grammar, tokens)?;
-    Ok(Alt::Guarded(pat, first, rest, decls))
+    Ok(Alt::Guarded(pat.into_inner(), first, rest, decls))
 }
 
 /// An alternative that is not empty.
@@ -121,7 +121,7 @@ fn filled<
     requires { Nests grammar.now.turns grammar.now.depth (E.pre grammar.now.exp) (E.post grammar.now.exp) (B.pre grammar.now.block) (B.post grammar.now.block) (A.pre grammar.now.alts) (A.post grammar.now.alts) }
     ensures { Reads (reader.filled grammar.now.turns (nested grammar.now.turns grammar.now.depth) tokens.old.rest.now) result tokens.new.rest.now }
 {
-    let pat = grammar.pat(tokens)?;
+    let pat = Boxed::new(tokens.alloc, grammar.pat(tokens)?)?;
     if tokens.sees(Key::KBar) {
         return guarded_alt(grammar, tokens, pat);
     }

@@ -96,26 +96,27 @@ fn infix_decl<
     E: Fn(&mut Cursor<'_>, usize, usize, bool, Sign) -> Result<(Expression, Option<Op>), Stop>,
     B: Fn(&mut Cursor<'_>, usize, usize) -> Result<Block, Stop>,
     A: Fn(&mut Cursor<'_>, usize, usize) -> Result<Alts, Stop>,
->(grammar: &Grammar<E, B, A>, tokens: &mut Cursor<'_>, first: Apat) -> Result<Decl, Stop>
+>(grammar: &Grammar<E, B, A>, tokens: &mut Cursor<'_>, first: Boxed<Apat>) -> Result<Decl, Stop>
     requires { Nests grammar.now.turns grammar.now.depth (E.pre grammar.now.exp) (E.post grammar.now.exp) (B.pre grammar.now.block) (B.post grammar.now.block) (A.pre grammar.now.alts) (A.post grammar.now.alts) }
     ensures { Reads (reader.infix_decl grammar.now.turns (nested grammar.now.turns grammar.now.depth) first tokens.old.rest.now) result tokens.new.rest.now }
 {
-    let op = tokens.var_op()?;
-    let second = grammar.apat(tokens)?;
+    let op = Boxed::new(tokens.alloc, tokens.var_op()?)?;
+    let second = Boxed::new(tokens.alloc, grammar.apat(tokens)?)?;
     let right = rhs(grammar, tokens)?;
-    Ok(Decl::Equation(Head::Infix(first, op, second), right))
+    let head = Head::Infix(first.into_inner(), op.into_inner(), second.into_inner());
+    Ok(Decl::Equation(head, right))
 }
 
 fn binding<
     E: Fn(&mut Cursor<'_>, usize, usize, bool, Sign) -> Result<(Expression, Option<Op>), Stop>,
     B: Fn(&mut Cursor<'_>, usize, usize) -> Result<Block, Stop>,
     A: Fn(&mut Cursor<'_>, usize, usize) -> Result<Alts, Stop>,
->(grammar: &Grammar<E, B, A>, tokens: &mut Cursor<'_>, pat: Pat) -> Result<Decl, Stop>
+>(grammar: &Grammar<E, B, A>, tokens: &mut Cursor<'_>, pat: Boxed<Pat>) -> Result<Decl, Stop>
     requires { Nests grammar.now.turns grammar.now.depth (E.pre grammar.now.exp) (E.post grammar.now.exp) (B.pre grammar.now.block) (B.post grammar.now.block) (A.pre grammar.now.alts) (A.post grammar.now.alts) }
     ensures { Reads (reader.binding grammar.now.turns (nested grammar.now.turns grammar.now.depth) pat tokens.old.rest.now) result tokens.new.rest.now }
 {
     let right = rhs(grammar, tokens)?;
-    Ok(Decl::Binding(pat, right))
+    Ok(Decl::Binding(pat.into_inner(), right))
 }
 
 /// What stands behind the first part of a pattern that is bound.
@@ -128,7 +129,7 @@ pub(crate) fn left_behind<
     requires { Nests grammar.now.turns grammar.now.depth (E.pre grammar.now.exp) (E.post grammar.now.exp) (B.pre grammar.now.block) (B.post grammar.now.block) (A.pre grammar.now.alts) (A.post grammar.now.alts) }
     ensures { Reads (reader.left_behind grammar.now.turns (nested grammar.now.turns grammar.now.depth) first tokens.old.rest.now) result tokens.new.rest.now }
 {
-    let pat = pat_behind(grammar, tokens, first)?;
+    let pat = Boxed::new(tokens.alloc, pat_behind(grammar, tokens, first)?)?;
     binding(grammar, tokens, pat)
 }
 
@@ -142,6 +143,7 @@ pub(crate) fn apat_behind<
     ensures { Reads (reader.apat_behind grammar.now.turns (nested grammar.now.turns grammar.now.depth) top first tokens.old.rest.now) result tokens.new.rest.now }
 {
     if top || tokens.sees_var_op() {
+        let first = Boxed::new(tokens.alloc, first)?;
         return infix_decl(grammar, tokens, first);
     }
     left_behind(grammar, tokens, LeftPat::Plain(first))
@@ -174,7 +176,8 @@ fn cons_decl<
     let first = cons_pat(grammar, tokens)?;
     let rest = cons_pats(grammar, tokens, first)?;
     let first = LeftPat::Plain(Apat::Var(name));
-    binding(grammar, tokens, Pat { first, rest })
+    let pat = Boxed::new(tokens.alloc, Pat { first, rest })?;
+    binding(grammar, tokens, pat)
 }
 
 /// What stands behind a name that begins with a small letter.
@@ -193,7 +196,8 @@ fn named_by<
         return cons_decl(grammar, tokens, name);
     }
     if tokens.sees_var_op() {
-        return infix_decl(grammar, tokens, Apat::Var(name));
+        let first = Boxed::new(tokens.alloc, Apat::Var(name))?;
+        return infix_decl(grammar, tokens, first);
     }
     var_behind(grammar, tokens, Var::Plain(name))
 }

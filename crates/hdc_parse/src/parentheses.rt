@@ -27,18 +27,26 @@ fn paren_infix<
     grammar: &Grammar<E, B, A>,
     tokens: &mut Cursor<'_>,
     open_at: At,
-    first: Apat,
+    first: Boxed<Apat>,
 ) -> Result<Decl, Stop>
     requires { Nests grammar.now.turns grammar.now.depth (E.pre grammar.now.exp) (E.post grammar.now.exp) (B.pre grammar.now.block) (B.post grammar.now.block) (A.pre grammar.now.alts) (A.post grammar.now.alts) }
     ensures { Reads (reader.paren_infix grammar.now.turns (nested grammar.now.turns grammar.now.depth) open_at first tokens.old.rest.now) result tokens.new.rest.now }
 {
-    let op = tokens.var_op()?;
-    let second = grammar.apat(tokens)?;
+    let op = Boxed::new(tokens.alloc, tokens.var_op()?)?;
+    let second = Boxed::new(tokens.alloc, grammar.apat(tokens)?)?;
     let close_at = tokens.key(Key::KCloseParen)?;
-    let third = grammar.apat(tokens)?;
+    let third = Boxed::new(tokens.alloc, grammar.apat(tokens)?)?;
     let rest = grammar.apats(tokens)?;
     let right = rhs(grammar, tokens)?;
-    let head = Head::Paren(open_at, first, op, second, close_at, third, rest);
+    let head = Head::Paren(
+        open_at,
+        first.into_inner(),
+        op.into_inner(),
+        second.into_inner(),
+        close_at,
+        third.into_inner(),
+        rest,
+    );
     Ok(Decl::Equation(head, right))
 }
 
@@ -79,6 +87,7 @@ fn paren_behind<
     ensures { Reads (reader.paren_behind grammar.now.turns (nested grammar.now.turns grammar.now.depth) top open_at first tokens.old.rest.now) result tokens.new.rest.now }
 {
     if tokens.sees_var_op() {
+        let first = Boxed::new(tokens.alloc, first)?;
         return paren_infix(grammar, tokens, open_at, first);
     }
     paren_left(grammar, tokens, top, open_at, LeftPat::Plain(first))

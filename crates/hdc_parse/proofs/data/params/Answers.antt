@@ -1,4 +1,4 @@
-use Rattle.std.proofs.Common.{rules, arith, []}
+use Rattle.std.proofs.Common.{rules, arith}
 use Rattle.std.proofs.lemmas.Grind.{common_steps}
 use Rattle.hdc_syntax.specs.Parser.{many_from}
 use Rattle.hdc_syntax.specs.Words.{is_small, small}

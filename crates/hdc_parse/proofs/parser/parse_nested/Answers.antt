@@ -1,9 +1,8 @@
-use Rattle.std.proofs.Common.{◌≡◌, ◌+◌, ◌-◌, ◌<◌, ◌≤◌, length, take, sym, ◌∙◌, ap, subst, arith, List}
+use Rattle.std.proofs.Common.{◌≡◌, ◌+◌, ◌<◌, sym, subst, arith}
 use Rattle.std.proofs.lemmas.Bool.Decides.{nat_tests}
 use Rattle.hdc_syntax.specs.declared.stop.Stop.TheVariants.{Syntax}
-use Rattle.hdc_parse.specs.ProgramReader.{program}
-use Rattle.hdc_parse.specs.Exact.{IsSyntax, IsNesting, place_of}
-use Rattle.hdc_parse.proofs.Answering.{syntax_read, left_within, count_within, ok_nested, end_nested, part_nested, nested_never_deep, deep_read}
+use Rattle.hdc_parse.specs.Exact.{IsSyntax, IsNesting}
+use Rattle.hdc_parse.proofs.Answering.{syntax_read, left_within, ok_nested, end_nested, part_nested, nested_never_deep, deep_read}
 use Rattle.hdc_parse.proofs.parser.parse_nested.Goals as goal
 
 pub overflow_sub-index : goal.overflow_sub-index

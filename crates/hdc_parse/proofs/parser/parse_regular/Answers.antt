@@ -1,7 +1,5 @@
-use Rattle.std.proofs.Common.{◌≡◌, ◌+◌, ◌-◌, ◌<◌, ◌≤◌, length, take, sym, ◌∙◌, ap, subst, arith, List}
-use Rattle.hdc_parse.specs.ProgramReader.{program}
-use Rattle.hdc_parse.specs.Exact.{IsParsed, IsSyntax, place_of}
-use Rattle.hdc_syntax.specs.Regular.{regular_count}
+use Rattle.std.proofs.Common.{◌-◌, sym, ◌∙◌, ap, subst, arith}
+use Rattle.hdc_parse.specs.Exact.{IsSyntax, place_of}
 use Rattle.hdc_parse.proofs.Answering.{syntax_read, left_within, count_within, parsed_answer, ok_irregular, syntax_answer, regular_never_deep, deep_read}
 use Rattle.hdc_parse.proofs.parser.parse_regular.Goals as goal
 

@@ -1,4 +1,4 @@
-use Rattle.std.proofs.Common.{length, arith}
+use Rattle.std.proofs.Common.{arith}
 use Rattle.std.proofs.lemmas.List.{length-drop}
 use Rattle.hdc_parse.proofs.Places.{place_past}
 use Rattle.hdc_parse.proofs.parser.place_of.Goals as goal
