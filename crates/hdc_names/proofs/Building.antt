@@ -13,7 +13,7 @@ use Rattle.hdc_names.specs.declared.stack.Waiting.TheVariants as waiting
 use Rattle.hdc_names.specs.OperatorTrees.{sign, operand, operator, leaf}
 use Rattle.hdc_names.specs.Grouping.{taker, taken, Waiting, behind, signed, State, wants, has, closed, finish, fixity_of, left_of, behind_left, advance, read, tree_in}
 use Rattle.hdc_names.specs.Chain as chain
-use Rattle.hdc_names.specs.Chain.{Numbered, Piece, Tree, signed_operand, pieces_from, pieces, IsTreeOf, steps_of, step_of, start, left_taken, sign_behind, operand_behind, next_read, all_taken, read_or, rest_read, IsBuilt, HasNoTree}
+use Rattle.hdc_names.specs.Chain.{Numbered, Piece, Tree, signed_operand, pieces_from, pieces, IsTreeOf, steps_of, step_of, start, left_taken, operand_behind, next_read, all_taken, read_or, rest_read, IsBuilt, HasNoTree}
 use Rattle.hdc_names.proofs.Grouping.{grouped_sound, grouped_only}
 
 abbrev binds : Numbered → Fixity
@@ -144,7 +144,7 @@ reached_tree s front ws a h = grouped_sound binds (pieces s front) (finish ws (l
 abbrev HaveTrees : Bool → List NextOperand → ℕ → Type 0
 HaveTrees s rest m = (j : ℕ) → j ≤ m → (t : Tree) × IsTreeOf s (take j rest) t
 
-abbrev Answered : Bool → List NextOperand → Result Progress ℕ → Type 0
+abbrev pub Answered : Bool → List NextOperand → Result Progress ℕ → Type 0
 Answered s rest (Ok p) = IsBuilt s rest (all_taken p.stack p.steps)
 Answered s rest (Err k) = HasNoTree s rest k
 
@@ -221,16 +221,19 @@ started false rest =
     answered false rest [] [] 0 refl (first_tree false rest (finish [] (leaf 0)) tree)
 
 -- the operand of this number was not read
-pub not_read : (s : Bool) (rest : List NextOperand) (i k : ℕ) (n : NextOperand) (ns : List NextOperand) (p : Progress) → rest_read 1 rest (start s) ≡ rest_read (suc i) (drop i rest) p → drop i rest ≡ n ∷ ns → k ≡ suc i → next_read k n p ≡ None → HasNoTree s rest k
-not_read s rest i k n ns p all here at none =
-    let stops : rest_read 1 rest (start s) ≡ Err k = all ∙ ap (λ z. rest_read (suc i) z p) here ∙ ap (λ m. read_or m (λ q. rest_read (suc m) ns q) (next_read m n p)) (sym at) ∙ ap (read_or k (λ q. rest_read (suc k) ns q)) none in
-    subst (λ r. Answered s rest r) stops (started s rest)
+pub not_read_out : (s : Bool) (rest : List NextOperand) (i k : ℕ) (n : NextOperand) (ns : List NextOperand) (p : Progress) → rest_read 1 rest (start s) ≡ rest_read (suc i) (drop i rest) p → drop i rest ≡ n ∷ ns → k ≡ suc i → next_read k n p ≡ None → rest_read 1 rest (start s) ≡ Err k
+not_read_out s rest i k n ns p all here at none =
+    all ∙ ap (λ z. rest_read (suc i) z p) here ∙ ap (λ m. read_or m (λ q. rest_read (suc m) ns q) (next_read m n p)) (sym at) ∙ ap (read_or k (λ q. rest_read (suc k) ns q)) none
+
+pub not_read : (s : Bool) (rest : List NextOperand) (k : ℕ) → rest_read 1 rest (start s) ≡ Err k → HasNoTree s rest k
+not_read s rest k stops = subst (λ r. Answered s rest r) stops (started s rest)
 
 -- all operands were read
-pub all_read : (s : Bool) (rest : List NextOperand) (i : ℕ) (p : Progress) (steps : List Step) → rest_read 1 rest (start s) ≡ rest_read (suc i) (drop i rest) p → drop i rest ≡ [] → steps ≡ all_taken p.stack p.steps → IsBuilt s rest steps
-all_read s rest i p steps all end written =
-    let ends : rest_read 1 rest (start s) ≡ Ok p = all ∙ ap (λ z. rest_read (suc i) z p) end in
-    subst (λ z. IsBuilt s rest z) (sym written) (subst (λ r. Answered s rest r) ends (started s rest))
+pub all_read_out : (s : Bool) (rest : List NextOperand) (i : ℕ) (p : Progress) → rest_read 1 rest (start s) ≡ rest_read (suc i) (drop i rest) p → drop i rest ≡ [] → rest_read 1 rest (start s) ≡ Ok p
+all_read_out s rest i p all end = all ∙ ap (λ z. rest_read (suc i) z p) end
+
+pub all_read : (s : Bool) (rest : List NextOperand) (p : Progress) (steps : List Step) → rest_read 1 rest (start s) ≡ Ok p → steps ≡ all_taken p.stack p.steps → IsBuilt s rest steps
+all_read s rest p steps ends written = subst (λ z. IsBuilt s rest z) (sym written) (subst (λ r. Answered s rest r) ends (started s rest))
 
 -- ---- a chain has a tree up to each operand, where it has one
 

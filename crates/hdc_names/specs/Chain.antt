@@ -129,3 +129,16 @@ abbrev pub Reads : Option Progress → Result Bool AllocError → Progress → T
 Reads found (Ok true) p = found ≡ Some p
 Reads found (Ok false) p = found ≡ None
 Reads found (Err e) p = Unit {0}
+
+-- the steps that the code writes, or the number of the operand up to which the chain has no tree
+abbrev pub read_out : Result Progress ℕ → Result (List Step) ℕ
+read_out (Ok p) = Ok (all_taken p.stack p.steps)
+read_out (Err k) = Err k
+
+abbrev pub read : Bool → List NextOperand → Result (List Step) ℕ
+read signed rest = read_out (rest_read 1 rest (start signed))
+
+abbrev pub IsRead : Result (List Step) ℕ → Result (List Step) ChainStop → Type 0
+IsRead found (Ok steps) = found ≡ Ok steps
+IsRead found (Err (stop.NoTree k)) = found ≡ Err k
+IsRead found (Err stop.Want) = Unit {0}

@@ -1,3 +1,11 @@
 pub mod OperatorTrees
 pub mod Grouping
 pub mod Chain
+pub mod Scopes
+pub mod Links
+pub mod Written
+pub mod Mirror
+pub mod Fixities
+pub mod Sites
+pub mod Trees
+pub mod Walk

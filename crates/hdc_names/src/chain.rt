@@ -2,18 +2,21 @@
 
 ghost use Rattle.std.specs.Prelude.{◌≡◌, IfOk};
 ghost use Rattle.hdc_names.specs.Chain as spec;
-ghost use Rattle.hdc_names.specs.Chain.{Answers, Reads};
+ghost use Rattle.hdc_names.specs.Chain.{Answers, Reads, IsRead};
 
 use crate::fixity::{Fixity, Taker, between, sign};
 use crate::stack::{Stack, Waiting};
+use hdc_base::At;
 use sqlite_items::Items;
 use std::alloc::{AllocError, AllocFailed, Global};
 
-/// An operator, and the operand behind it, with a sign or without one.
+/// An operator, and the operand behind it, with a sign or without one; `at` is the place of the last operator
+/// up to the operand, which is its sign, or else the operator before it.
 #[derive(Clone, Copy, Debug, PartialEq, Eq)]
 pub struct NextOperand {
     pub fixity: Fixity,
     pub signed: bool,
+    pub at: At,
 }
 
 /// A step of building a tree, with a stack of trees.
@@ -56,7 +59,8 @@ impl<T: Drop> From<AllocFailed<T>> for ChainStop {
 /// How the tree of a chain is built, whose first operand has a sign or none, with the others in `rest`.
 /// The operands are numbered from 0.
 pub fn steps(alloc: Global, signed: bool, rest: &[NextOperand]) -> Result<Items<Step>, ChainStop>
-    ensures { Answers signed rest.now result }
+    ensures answers { Answers signed rest.now result }
+    ensures read { IsRead (spec.read signed rest.now) result }
 {
     let mut progress = Progress::start(alloc, signed)?;
     for index in 0..rest.len() {

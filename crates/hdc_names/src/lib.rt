@@ -1,18 +1,30 @@
 //! Names and what they stand for.
 //!
-//! So far: which tree a chain of operands and operators stands for (`specs/OperatorTrees.antt`). `steps`
-//! answers how the tree of a chain is built, or the first operand up to which the chain has none
+//! So far: the operator trees of programs. `check_chains` answers whether each chain and section of a prelude
+//! and a program has a tree, or the first place where one has none (`specs/Trees.antt`). Which tree a chain
+//! stands for is said in `specs/OperatorTrees.antt`, which chains and sections a program has in
+//! `specs/Sites.antt`, and how its operators bind in `specs/Fixities.antt`. Definitions speak of programs
+//! without the memory that holds them (`specs/Written.antt`, `specs/Mirror.antt`).
+//!
+//! `steps` answers how the tree of one chain is built, or the first operand up to which the chain has none
 //! (`specs/Chain.antt`); `one_tree` says that a chain has at most one, and `no_tree_behind` that it has none
 //! where it has none up to an operand.
 #![tactic(auto)]
 
+mod binders;
 mod chain;
+mod check;
 mod fixity;
 mod laws;
+mod operator;
+mod scope;
+mod site;
 mod stack;
 #[cfg(test)]
 mod tests;
+mod walk;
 
 pub use chain::{ChainStop, NextOperand, Step, steps};
+pub use check::{ChainsStop, check_chains};
 pub use fixity::Fixity;
 pub use laws::{no_tree_behind, one_tree};

@@ -1,6 +1,7 @@
 //! Chains and how their trees are built, worked out by hand.
 
 use super::{ChainStop, Fixity, NextOperand, Step, no_tree_behind, one_tree, steps};
+use hdc_base::At;
 use hdc_tree::Associativity;
 use std::alloc::{AllocError, Global};
 use std::test::Fail;
@@ -49,7 +50,8 @@ fn read(alloc: Global, text: &str) -> Result<Chain, AllocError> {
                 chain.signed = signed;
             } else {
                 let fixity = fixity(operator);
-                chain.rest.push(NextOperand { fixity, signed })?;
+                let at = At { line: 1, col: 1 };
+                chain.rest.push(NextOperand { fixity, signed, at })?;
             }
             chain.operands.push(*byte)?;
             chain.operators.push(operator)?;

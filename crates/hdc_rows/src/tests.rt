@@ -1,5 +1,6 @@
 //! The tables: what each program gives, and what comes of other words, long files and failures.
 
+mod chains;
 mod job;
 mod outside;
 mod rows;

@@ -15,6 +15,8 @@ use Rattle.hdc_lex.specs.declared.lexer.LexStop.TheVariants as lex
 use Rattle.hdc_lex.specs.Lexing.{Lexes}
 use Rattle.hdc_lex.proofs.OneAnswer.{same_answer}
 use Rattle.hdc_layout.specs.LaidOut.{laid_out}
+use Rattle.hdc_tree.specs.declared.program.Top.{Top}
+use Rattle.hdc_tree.specs.declared.program.Tree as program
 use Rattle.hdc_tree.specs.Program.{IsProgram}
 use Rattle.hdc_value.specs.declared.outcome.Outcome.{Outcome}
 use Rattle.hdc_value.specs.declared.outcome.Outcome.TheVariants as outcome
@@ -27,8 +29,16 @@ use Rattle.hdc_code.specs.Sound.{EndsWith}
 use Rattle.hdc_top.specs.declared.job.Due.{Due}
 use Rattle.hdc_top.specs.Code.{CarriesMeaning}
 use Rattle.hdc_parse.specs.declared.stop.ParseStop.TheVariants as parsing
+use Rattle.hdc_parse.specs.Exact.{IsParsed}
 use Rattle.hdc_parse.proofs.OneAnswer.{parsed_no_syntax, parsed_no_nesting, syntax_once, nesting_once, syntax_no_nesting}
-use Rattle.hdc_top.specs.Stopped.{most_bytes, lexer_stop, parser_stop, refused_at, end_place, HasLayout, SpellsLaid, SpellsTree, StopsLaid, syntax_at, nesting_at, not_built, LacksLayout, lexemes, layout, IsStopped, no_tokens, laid_tokens, IsRefused, NestsTooDeep, PassesLimit}
+use Rattle.hdc_parse.proofs.OneSpelling.{one_spelling}
+use Rattle.hdc_names.specs.declared.check.ChainsStop.TheVariants as checking
+use Rattle.hdc_names.specs.Mirror.{tops_of}
+use Rattle.hdc_names.specs.Sites.{prelude_sites, program_sites}
+use Rattle.hdc_names.specs.Trees.{IsChecked}
+use Rattle.hdc_names.proofs.Faults.{fault_once, fault_or_none}
+use Rattle.hdc_top.specs.Prelude.{HasTree, IsPrelude, stored, without}
+use Rattle.hdc_top.specs.Stopped.{most_bytes, lexer_stop, parser_stop, refused_at, end_place, HasLayout, HasTrees, LacksTree, SpellsLaid, SpellsTree, StopsLaid, syntax_at, nesting_at, fixity_at, not_built, LacksLayout, lexemes, layout, IsStopped, no_tokens, laid_tokens, IsRefused, NestsTooDeep, PassesLimit}
 use Rattle.hdc_top.specs.Report.{run_text, stop_text}
 use Rattle.hdc_top.specs.Words.{job_of, usage_text}
 use Rattle.hdc_top.specs.Due.{budget, too_long, status_of, stop_status, IsDueFor, long, stopped, ran, IsDue, usage, job, IsTold, IsDueFrom, IsFileText}
@@ -54,7 +64,8 @@ lexer_want lex.Want e = refl
 laid_want : (laid : List Token) (end : At) (s : Stop) → StopsLaid laid end s → s ≢ stop.Want
 laid_want laid end _ (syntax_at at h) = λ e. cc
 laid_want laid end _ (nesting_at at h) = λ e. cc
-laid_want laid end _ (not_built whole parsed none) = λ e. cc
+laid_want laid end _ (fixity_at whole at parsed lacks) = λ e. cc
+laid_want laid end _ (not_built whole parsed has none) = λ e. cc
 
 unlaid_want : (text : List ℕ) (s : Stop) → LacksLayout text s → s ≢ stop.Want
 unlaid_want text _ (lexemes s h told) = λ e. told (lexer_want s e)
@@ -165,17 +176,72 @@ stopping : (text : List ℕ) (s : Stop) → IsStopped text s → Stopping text s
 stopping text s (no_tokens _ h) = unlaid_stopping text s h
 stopping text s (laid_tokens laid _ h why) = record { answer = Ok h.tokens; lexed = h.lexed; told = λ e. cc; stops = subst (λ r. StopsLayout r (end_place text) s) (sym h.laid_out) why }
 
+-- the laid-out tokens of a text are one list
+pub layout_once : (text : List ℕ) (laid others : List Token) → HasLayout text laid → HasLayout text others → laid ≡ others
+layout_once text laid others h g =
+    let same = same_answer form.Program text (Ok h.tokens) (Ok g.tokens) h.lexed g.lexed (λ e. cc) (λ e. cc) in
+    let tokens : h.tokens ≡ g.tokens = cc in
+    let both : ◌≡◌ {A = Result (List Token) At} (Ok laid) (Ok others) = sym h.laid_out ∙ ap (λ ts. laid_out ts (end_place text)) tokens ∙ g.laid_out in
+    cc
+
+-- laid-out tokens are the spelling of one tree
+whole_once : (laid : List Token) (whole other : program.Tree) → IsParsed laid whole → IsParsed laid other → whole ≡ other
+whole_once laid whole other h g = one_spelling whole other h.well_formed.formed g.well_formed.formed (h.spelled ∙ sym g.spelled)
+
+-- a text and the prelude have one tree
+tree_once : (text : List ℕ) (tree other : program.Tree) → HasTree text tree → HasTree text other → tree ≡ other
+tree_once text tree other h g = whole_once g.laid tree other (subst (λ laid. IsParsed laid tree) (layout_once text h.laid g.laid h.layout g.layout) h.parsed) g.parsed
+
+prelude_once : (prelude other : program.Tree) → IsPrelude prelude → IsPrelude other → prelude ≡ other
+prelude_once _ _ (stored tree h) (stored other g) = tree_once _ tree other h g
+prelude_once _ _ (stored tree h) (without none) = absurd (none tree h)
+prelude_once _ _ (without none) (stored other g) = absurd (none other g)
+prelude_once _ _ (without none) (without nothing) = refl
+
+-- what the check of chains tells of a prelude and a program is one place, or that all have trees
+fault_place : (prelude whole : List Top) (a b : At) → IsChecked prelude whole (Err (checking.Fixity a)) → IsChecked prelude whole (Err (checking.Fixity b)) → a ≡ b
+fault_place prelude whole a b (inl h) (inl g) = fault_once (prelude_sites prelude) a b h g
+fault_place prelude whole a b (inl h) (inr g) = absurd (fault_or_none (prelude_sites prelude) a h g.0)
+fault_place prelude whole a b (inr h) (inl g) = absurd (fault_or_none (prelude_sites prelude) b g h.0)
+fault_place prelude whole a b (inr h) (inr g) = fault_once (program_sites whole) a b h.1 g.1
+
+fault_no_trees : (prelude whole : List Top) (at : At) → IsChecked prelude whole (Err (checking.Fixity at)) → IsChecked prelude whole (Ok tt) → ⊥
+fault_no_trees prelude whole at (inl h) all = fault_or_none (prelude_sites prelude) at h all.0
+fault_no_trees prelude whole at (inr h) all = fault_or_none (program_sites whole) at h.1 all.1
+
+-- of a program's chains and sections the first that has no tree stands at one place, and where one has none not all have
+lacks_once : (whole : program.Tree) (a b : At) → LacksTree whole a → LacksTree whole b → a ≡ b
+lacks_once whole a b h g =
+    let same = prelude_once h.prelude g.prelude h.is g.is in
+    fault_place (tops_of g.prelude) (tops_of whole) a b (subst (λ p. IsChecked (tops_of p) (tops_of whole) (Err (checking.Fixity a))) same h.checked) g.checked
+
+lacks_none : (whole : program.Tree) (at : At) → LacksTree whole at → HasTrees whole → ⊥
+lacks_none whole at h g =
+    let same = prelude_once h.prelude g.prelude h.is g.is in
+    fault_no_trees (tops_of g.prelude) (tops_of whole) at (subst (λ p. IsChecked (tops_of p) (tops_of whole) (Err (checking.Fixity at))) same h.checked) g.checked
+
+-- the same of the tree that laid-out tokens spell
+lacks_too : (laid : List Token) (at : At) (whole other : program.Tree) → IsParsed laid whole → IsParsed laid other → LacksTree whole at → LacksTree other at
+lacks_too laid at whole other parsed again h = subst (λ t. LacksTree t at) (whole_once laid whole other parsed again) h
+
 -- laid-out tokens are stopped in one way
 laid_once : (laid : List Token) (end : At) (s t : Stop) → StopsLaid laid end s → StopsLaid laid end t → s ≡ t
 laid_once laid end _ _ (syntax_at a h) (syntax_at b g) = ap (λ at. parser_stop (parsing.Syntax at)) (syntax_once laid end a b h g)
 laid_once laid end _ _ (syntax_at a h) (nesting_at b g) = absurd (syntax_no_nesting laid end a b h g)
-laid_once laid end _ _ (syntax_at a h) (not_built whole parsed none) = absurd (parsed_no_syntax laid end a whole parsed h)
+laid_once laid end _ _ (syntax_at a h) (fixity_at whole b parsed lacks) = absurd (parsed_no_syntax laid end a whole parsed h)
+laid_once laid end _ _ (syntax_at a h) (not_built whole parsed has none) = absurd (parsed_no_syntax laid end a whole parsed h)
 laid_once laid end _ _ (nesting_at a h) (syntax_at b g) = absurd (syntax_no_nesting laid end b a g h)
 laid_once laid end _ _ (nesting_at a h) (nesting_at b g) = ap (λ at. parser_stop (parsing.Nesting at)) (nesting_once laid end a b h g)
-laid_once laid end _ _ (nesting_at a h) (not_built whole parsed none) = absurd (parsed_no_nesting laid end a whole parsed h)
-laid_once laid end _ _ (not_built whole parsed none) (syntax_at b g) = absurd (parsed_no_syntax laid end b whole parsed g)
-laid_once laid end _ _ (not_built whole parsed none) (nesting_at b g) = absurd (parsed_no_nesting laid end b whole parsed g)
-laid_once laid end _ _ (not_built whole parsed none) (not_built other again nothing) = refl
+laid_once laid end _ _ (nesting_at a h) (fixity_at whole b parsed lacks) = absurd (parsed_no_nesting laid end a whole parsed h)
+laid_once laid end _ _ (nesting_at a h) (not_built whole parsed has none) = absurd (parsed_no_nesting laid end a whole parsed h)
+laid_once laid end _ _ (fixity_at whole a parsed lacks) (syntax_at b g) = absurd (parsed_no_syntax laid end b whole parsed g)
+laid_once laid end _ _ (fixity_at whole a parsed lacks) (nesting_at b g) = absurd (parsed_no_nesting laid end b whole parsed g)
+laid_once laid end _ _ (fixity_at whole a parsed lacks) (fixity_at other b again g) = ap (λ at. refused_at kind.Fixity at) (lacks_once other a b (lacks_too laid a whole other parsed again lacks) g)
+laid_once laid end _ _ (fixity_at whole a parsed lacks) (not_built other again has none) = absurd (lacks_none other a (lacks_too laid a whole other parsed again lacks) has)
+laid_once laid end _ _ (not_built whole parsed has none) (syntax_at b g) = absurd (parsed_no_syntax laid end b whole parsed g)
+laid_once laid end _ _ (not_built whole parsed has none) (nesting_at b g) = absurd (parsed_no_nesting laid end b whole parsed g)
+laid_once laid end _ _ (not_built whole parsed has none) (fixity_at other b again lacks) = absurd (lacks_none whole b (lacks_too laid b other whole again parsed lacks) has)
+laid_once laid end _ _ (not_built whole parsed has none) (not_built other again too nothing) = refl
 
 layout_stops_once : (r : Result (List Token) At) (end : At) (s t : Stop) → StopsLayout r end s → StopsLayout r end t → s ≡ t
 layout_stops_once (Ok laid) end s t h g = laid_once laid end s t h g
@@ -192,14 +258,6 @@ stopped_once text s t h g =
     let b = stopping text t g in
     let same = same_answer form.Program text a.answer b.answer a.lexed b.lexed a.told b.told in
     stops_once b.answer (end_place text) s t (subst (λ r. StopsAt r (end_place text) s) same a.stops) b.stops
-
--- the laid-out tokens of a text are one list
-pub layout_once : (text : List ℕ) (laid others : List Token) → HasLayout text laid → HasLayout text others → laid ≡ others
-layout_once text laid others h g =
-    let same = same_answer form.Program text (Ok h.tokens) (Ok g.tokens) h.lexed g.lexed (λ e. cc) (λ e. cc) in
-    let tokens : h.tokens ≡ g.tokens = cc in
-    let both : ◌≡◌ {A = Result (List Token) At} (Ok laid) (Ok others) = sym h.laid_out ∙ ap (λ ts. laid_out ts (end_place text)) tokens ∙ g.laid_out in
-    cc
 
 no_answer : (s : LexStop) (tokens : List Token) → ◌≡◌ {A = Result (List Token) LexStop} (Err s) (Ok tokens) → ⊥
 no_answer s tokens e = cc
@@ -224,7 +282,8 @@ unlaid_none text _ laid (layout tokens at h e) g =
 laid_none : (laid : List Token) (end : At) (s : Stop) (tree : Tree) → StopsLaid laid end s → SpellsLaid laid tree → ⊥
 laid_none laid end _ tree (syntax_at at h) p = parsed_no_syntax laid end at p.whole p.parsed h
 laid_none laid end _ tree (nesting_at at h) p = parsed_no_nesting laid end at p.whole p.parsed h
-laid_none laid end _ tree (not_built whole parsed none) p = none tree p.program
+laid_none laid end _ tree (fixity_at whole at parsed lacks) p = lacks_none p.whole at (lacks_too laid at whole p.whole parsed p.parsed lacks) p.chains
+laid_none laid end _ tree (not_built whole parsed has none) p = none tree p.program
 
 -- a text that is stopped spells no tree
 stopped_none : (text : List ℕ) (s : Stop) (tree : Tree) → IsStopped text s → SpellsTree text tree → ⊥
@@ -289,7 +348,8 @@ lexer_limit text lex.Want h e = absurd (omega arith)
 laid_limit : (text : List ℕ) (laid : List Token) (s : Stop) → HasLayout text laid → StopsLaid laid (end_place text) s → stop_status s ≡ 8 → NestsTooDeep text
 laid_limit text laid _ h (syntax_at at g) e = absurd (omega arith)
 laid_limit text laid _ h (nesting_at at g) e = record { laid = laid; layout = h; at = at; nesting = g }
-laid_limit text laid _ h (not_built whole parsed none) e = absurd (omega arith)
+laid_limit text laid _ h (fixity_at whole at parsed lacks) e = absurd (omega arith)
+laid_limit text laid _ h (not_built whole parsed has none) e = absurd (omega arith)
 
 unlaid_limit : (text : List ℕ) (s : Stop) → LacksLayout text s → stop_status s ≡ 8 → (at : At) × Lexes form.Program text (Err (lex.Tokens at))
 unlaid_limit text _ (lexemes s h told) e = lexer_limit text s h e

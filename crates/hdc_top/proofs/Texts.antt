@@ -2,6 +2,7 @@
 use Rattle.std.proofs.Common.{◌≡◌, ◌≢◌, ℕ, List, refl, sym, ap, subst, ◌∙◌, Option, Some, None, Result, Ok, Err}
 use Rattle.hdc_base.specs.declared.place.At.{At}
 use Rattle.hdc_base.specs.declared.token.Token as text_token
+use Rattle.hdc_base.specs.declared.refusal.Kind.TheVariants as kind
 use Rattle.hdc_base.specs.declared.refusal.Stop.{Stop}
 use Rattle.hdc_base.specs.declared.refusal.Stop.TheVariants as text_stop
 use Rattle.hdc_lex.specs.declared.lexeme.Form.TheVariants as form
@@ -22,8 +23,12 @@ use Rattle.hdc_parse.specs.declared.stop.ParseStop.TheVariants as parsing
 use Rattle.hdc_parse.specs.Exact.{IsParsed}
 use Rattle.hdc_parse.specs.Answer.{IsAnswer}
 use Rattle.hdc_tree.specs.declared.program.Tree as program
-use Rattle.hdc_top.specs.Stopped.{not_yet, layout_stop, lexer_stop, parser_stop, end_place, HasLayout, StopsLaid, syntax_at, nesting_at, not_built, IsStopped, no_tokens, lexemes, layout, laid_tokens}
-use Rattle.hdc_top.specs.Results.{IsBetween, Finds, Reads, ReadsProgram, LaysText, ReadsLaid, ReadsText, Compiles}
+use Rattle.hdc_names.specs.declared.check.ChainsStop.TheVariants as checking
+use Rattle.hdc_names.specs.Mirror.{tops_of}
+use Rattle.hdc_names.specs.Trees.{IsChecked}
+use Rattle.hdc_top.specs.Prelude.{IsPrelude}
+use Rattle.hdc_top.specs.Stopped.{not_yet, refused_at, layout_stop, lexer_stop, parser_stop, end_place, HasLayout, HasTrees, StopsLaid, syntax_at, nesting_at, fixity_at, not_built, IsStopped, no_tokens, lexemes, layout, laid_tokens}
+use Rattle.hdc_top.specs.Results.{IsBetween, Finds, Reads, ReadsProgram, LaysText, ChecksWhole, ReadsLaid, ReadsText, Compiles}
 use Rattle.hdc_top.specs.declared.reader.ReadStop.{ReadStop}
 use Rattle.hdc_top.specs.declared.reader.ReadStop.TheVariants as stop
 
@@ -52,8 +57,18 @@ program_stops laid inner stop.NotYet between h = λ tree p.
 program_stops laid inner stop.Want between h = tt
 
 -- laid-out tokens that are a program, but not of the form that is built
-pub not_built_stops : (laid : List text_token.Token) (end : At) (whole : program.Tree) (s : Stop) → IsParsed laid whole → SpellsNone laid → s ≡ not_yet → ReadsLaid laid end (Err s)
-not_built_stops laid end whole s parsed none same = subst (λ s. ReadsLaid laid end (Err s)) (sym same) (not_built whole parsed none)
+pub not_built_stops : (laid : List text_token.Token) (end : At) (whole : program.Tree) (s : Stop) → IsParsed laid whole → HasTrees whole → SpellsNone laid → s ≡ not_yet → ReadsLaid laid end (Err s)
+not_built_stops laid end whole s parsed has none same = subst (λ s. ReadsLaid laid end (Err s)) (sym same) (not_built whole parsed has none)
+
+-- a place where a chain or section has no tree is a refusal
+pub fixity_stops : (whole prelude : program.Tree) (at : At) (s : Stop) → IsPrelude prelude → IsChecked (tops_of prelude) (tops_of whole) (Err (checking.Fixity at)) → s ≡ refused_at kind.Fixity at → ChecksWhole whole (Err s)
+fixity_stops whole prelude at s is h same = subst (λ s. ChecksWhole whole (Err s)) (sym same) (at, refl, record { prelude = prelude; is = is; checked = h })
+
+-- laid-out tokens that are a program, where not all chains and sections are found to have trees
+pub checked_stops : (laid : List text_token.Token) (end : At) (whole : program.Tree) (s : Stop) → IsParsed laid whole → ChecksWhole whole (Err s) → ReadsLaid laid end (Err s)
+checked_stops laid end whole text_stop.Want parsed h = tt
+checked_stops laid end whole (text_stop.Refused r) parsed (at, same, lacks) = subst (λ s. StopsLaid laid end s) (sym same) (fixity_at whole at parsed lacks)
+checked_stops laid end whole (text_stop.Limit l) parsed h = absurd h
 
 parsing_stops : (laid : List text_token.Token) (end : At) (s : ParseStop) → IsAnswer laid end (Err s) → ReadsLaid laid end (Err (parser_stop s))
 parsing_stops laid end (parsing.Syntax at) h = syntax_at at h

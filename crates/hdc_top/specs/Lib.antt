@@ -1,6 +1,7 @@
+pub mod Layout
+pub mod Prelude
 pub mod Stopped
 pub mod Results
-pub mod Prelude
 pub mod Parsing
 pub mod Code
 pub mod Runs

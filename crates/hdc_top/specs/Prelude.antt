@@ -7,7 +7,7 @@ use Rattle.hdc_tree.specs.declared.program.ModuleHead.TheVariants as head
 use Rattle.hdc_tree.specs.declared.program.Top.TheVariants as top
 use Rattle.hdc_tree.specs.declared.program.Tree.{Tree}
 use Rattle.hdc_parse.specs.Exact.{IsParsed}
-use Rattle.hdc_top.specs.Stopped.{HasLayout}
+use Rattle.hdc_top.specs.Layout.{HasLayout}
 
 -- the tree whose spelling is the laid-out lexemes of a text
 pub record HasTree (text : List ℕ) (tree : Tree) : Type 0 where

@@ -4,16 +4,18 @@ use Rattle.std.specs.declared.alloc.Global.{Global}
 use Rattle.std.specs.Prelude.{Vec}
 use Rattle.hdc_base.specs.declared.place.At.{At}
 use Rattle.hdc_base.specs.declared.token.Token as text_token
+use Rattle.hdc_base.specs.declared.refusal.Kind.TheVariants as kind
 use Rattle.hdc_base.specs.declared.refusal.Stop.{Stop}
 use Rattle.hdc_base.specs.declared.refusal.Stop.TheVariants as text_stop
 use Rattle.hdc_tree.specs.declared.exp.Exp.{Exp}
+use Rattle.hdc_tree.specs.declared.program.Tree as program
 use Rattle.hdc_tree.specs.declared.token.Token.{Token}
 use Rattle.hdc_tree.specs.Tree.{Tree, tree_of}
 use Rattle.hdc_tree.specs.Lexemes.{braced}
 use Rattle.hdc_tree.specs.Program.{IsProgram, SpellsNone}
 use Rattle.hdc_code.specs.declared.instr.Instr.{Instr}
 use Rattle.hdc_top.specs.Code.{CarriesMeaning}
-use Rattle.hdc_top.specs.Stopped.{HasLayout, LacksLayout, SpellsLaid, SpellsTree, StopsLaid, IsStopped}
+use Rattle.hdc_top.specs.Stopped.{refused_at, HasLayout, LacksLayout, HasTrees, LacksTree, SpellsLaid, SpellsTree, StopsLaid, IsStopped}
 use Rattle.hdc_top.specs.declared.reader.ReadStop.{ReadStop}
 use Rattle.hdc_top.specs.declared.reader.ReadStop.TheVariants as stop
 
@@ -38,6 +40,13 @@ abbrev pub ReadsProgram : List text_token.Token → Result Exp ReadStop → Type
 ReadsProgram laid (Ok e) = IsProgram laid (tree_of e)
 ReadsProgram laid (Err stop.NotYet) = SpellsNone laid
 ReadsProgram laid (Err stop.Want) = Unit {0}
+
+-- each chain and section has a tree, or it is refused where the first has none
+abbrev pub ChecksWhole : program.Tree → Result (Unit {0}) Stop → Type 0
+ChecksWhole whole (Ok done) = HasTrees whole
+ChecksWhole whole (Err text_stop.Want) = Unit {0}
+ChecksWhole whole (Err (text_stop.Refused r)) = (at : At) × (text_stop.Refused r ≡ refused_at kind.Fixity at) × LacksTree whole at
+ChecksWhole whole (Err (text_stop.Limit l)) = ⊥
 
 -- the laid-out tokens spell this tree, or why they spell none
 abbrev pub ReadsLaid : List text_token.Token → At → Result Exp Stop → Type 0

@@ -12,7 +12,7 @@ use Rattle.hdc_base.specs.declared.refusal.Stop.TheVariants as stop
 use Rattle.hdc_lex.specs.declared.lexeme.Form.TheVariants as form
 use Rattle.hdc_lex.specs.declared.lexer.LexStop.{LexStop}
 use Rattle.hdc_lex.specs.declared.lexer.LexStop.TheVariants as lex
-use Rattle.hdc_lex.specs.Place.{first_place, behind_all}
+use Rattle.hdc_lex.specs.Place.{first_place}
 use Rattle.hdc_lex.specs.Lexing.{Lexes}
 use Rattle.hdc_layout.specs.declared.stop.LayoutStop.{LayoutStop}
 use Rattle.hdc_layout.specs.declared.stop.LayoutStop.TheVariants as laying
@@ -23,6 +23,11 @@ use Rattle.hdc_tree.specs.Program.{IsProgram, SpellsNone}
 use Rattle.hdc_parse.specs.declared.stop.ParseStop.{ParseStop}
 use Rattle.hdc_parse.specs.declared.stop.ParseStop.TheVariants as parsing
 use Rattle.hdc_parse.specs.Exact.{IsParsed, IsSyntax, IsNesting}
+use Rattle.hdc_names.specs.declared.check.ChainsStop.TheVariants as checking
+use Rattle.hdc_names.specs.Mirror.{tops_of}
+use Rattle.hdc_names.specs.Trees.{IsChecked}
+use Rattle.hdc_top.specs.Prelude.{IsPrelude}
+pub use Rattle.hdc_top.specs.Layout.{end_place, HasLayout}
 
 -- the most bytes of a file
 abbrev pub most_bytes : ℕ
@@ -55,20 +60,23 @@ parser_stop (parsing.Syntax at) = refused_at kind.Syntax at
 parser_stop (parsing.Nesting at) = stop.Limit (limit.Nesting which.Program at)
 parser_stop parsing.Want = stop.Want
 
--- the place where a next byte would stand
-abbrev pub end_place : List ℕ → At
-end_place text = behind_all first_place text
+-- each chain and section of the prelude and of the program has a tree
+pub record HasTrees (whole : program.Tree) : Type 0 where
+  pub prelude : program.Tree
+  pub is : IsPrelude prelude
+  pub checked : IsChecked (tops_of prelude) (tops_of whole) (Ok tt)
 
--- the laid-out tokens of a text
-pub record HasLayout (text : List ℕ) (laid : List Token) : Type 0 where
-  pub tokens : List Token
-  pub lexed : Lexes form.Program text (Ok tokens)
-  pub laid_out : laid_out tokens (end_place text) ≡ Ok laid
+-- a chain or section has no tree; the first place of those of the prelude, or else of the program
+pub record LacksTree (whole : program.Tree) (at : At) : Type 0 where
+  pub prelude : program.Tree
+  pub is : IsPrelude prelude
+  pub checked : IsChecked (tops_of prelude) (tops_of whole) (Err (checking.Fixity at))
 
--- the laid-out tokens are a program of the language, and spell the tree
+-- the laid-out tokens are a program of the language, whose chains and sections have trees, and spell the tree
 pub record SpellsLaid (laid : List Token) (tree : Tree) : Type 0 where
   pub whole : program.Tree
   pub parsed : IsParsed laid whole
+  pub chains : HasTrees whole
   pub program : IsProgram laid tree
 
 -- the text spells the tree
@@ -77,12 +85,13 @@ pub record SpellsTree (text : List ℕ) (tree : Tree) : Type 0 where
   pub layout : HasLayout text laid
   pub spelled : SpellsLaid laid tree
 
--- why laid-out tokens spell no tree: no program goes on with one of them, one nests too deep, or they are a program, but
--- not of the form that is built
+-- why laid-out tokens spell no tree: no program goes on with one of them, one nests too deep, or they are a program, and a
+-- chain or section has no tree, or all have, but the program is not of the form that is built
 pub data StopsLaid (laid : List Token) (end : At) : Stop → Type 0 where
   syntax_at : (at : At) → IsSyntax laid end at → StopsLaid laid end (parser_stop (parsing.Syntax at))
   nesting_at : (at : At) → IsNesting laid end at → StopsLaid laid end (parser_stop (parsing.Nesting at))
-  not_built : (whole : program.Tree) → IsParsed laid whole → SpellsNone laid → StopsLaid laid end not_yet
+  fixity_at : (whole : program.Tree) (at : At) → IsParsed laid whole → LacksTree whole at → StopsLaid laid end (refused_at kind.Fixity at)
+  not_built : (whole : program.Tree) → IsParsed laid whole → HasTrees whole → SpellsNone laid → StopsLaid laid end not_yet
 
 -- why a text has no laid-out tokens: its lexemes or its layout are refused, or it has too many lexemes
 pub data LacksLayout (text : List ℕ) : Stop → Type 0 where
@@ -94,7 +103,7 @@ pub data IsStopped (text : List ℕ) : Stop → Type 0 where
   no_tokens : (s : Stop) → LacksLayout text s → IsStopped text s
   laid_tokens : (laid : List Token) (s : Stop) → HasLayout text laid → StopsLaid laid (end_place text) s → IsStopped text s
 
--- the lexemes, the layout, the syntax or the form of a text are refused
+-- the lexemes, the layout, the syntax, the chains or the form of a text are refused
 abbrev pub IsRefused : List ℕ → Type 0
 IsRefused text = (r : Refusal) × IsStopped text (stop.Refused r)
 

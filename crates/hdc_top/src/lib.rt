@@ -1,10 +1,11 @@
 //! The top call: words in, a report and a status out.
 //!
-//! `serve` reads the words, loads the file, divides its text into lexemes, lays these out, reads them
-//! as a tree, makes code of the tree, runs the code on the machine and writes the report by one put.
-//! Its contract says what is due for the words and the text, in terms of lexemes, layout, the tree's
-//! spelling and its meaning alone (`specs/Due.antt`), and gives each other answer but want of memory
-//! its cause.
+//! `serve` reads the words, loads the file, divides its text into lexemes, lays these out, parses them,
+//! asks whether each chain and section of the prelude and of the program has a tree, reads the lexemes as a
+//! tree, makes code of the tree, runs the code on the machine and writes the report by one put.
+//! Its contract says what is due for the words and the text, in terms of lexemes, layout, the program's
+//! syntax and the trees of its chains, and the tree's spelling and meaning alone (`specs/Due.antt`), and
+//! gives each other answer but want of memory its cause.
 #![tactic(auto)]
 
 mod compiler;

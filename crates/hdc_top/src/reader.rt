@@ -3,15 +3,17 @@
 ghost use Rattle.std.specs.Prelude.{◌≡◌, ◌≤◌, ℕ, length};
 ghost use Rattle.hdc_top.specs.declared.reader.ReadStop.TheVariants as stop;
 ghost use Rattle.hdc_top.specs.Stopped.{layout_stop, lexer_stop, not_yet, parser_stop, refused_at};
-ghost use Rattle.hdc_top.specs.Results.{LaysText, ReadsLaid, ReadsProgram, ReadsText};
+ghost use Rattle.hdc_top.specs.Results.{ChecksWhole, LaysText, ReadsLaid, ReadsProgram, ReadsText};
 
 use crate::lexemes::{arithmetic, between_braces};
 use crate::parser::parse;
+use crate::prelude::prelude_tree;
 use hdc_base::{At, Kind, Limit, Refusal, Stop, Token, Tokens, Which};
 use hdc_layout::{LayoutStop, lay_out};
 use hdc_lex::{Form, LexStop, end_of, lex};
+use hdc_names::{ChainsStop, check_chains};
 use hdc_parse::ParseStop;
-use hdc_tree::Exp;
+use hdc_tree::{Exp, Tree};
 use std::alloc::{AllocError, AllocFailed, Global};
 
 /// Why a text was not read.
@@ -40,7 +42,8 @@ impl<T: Drop> From<AllocFailed<T>> for ReadStop {
 }
 
 /// The tree that a text spells, or why it spells none: a refusal of its lexemes, its layout or its syntax,
-/// the limit on lexemes or on nesting, or that it is not of the form that is built.
+/// the limit on lexemes or on nesting, a chain or section of the prelude or of its program that has no tree,
+/// or that it is not of the form that is built.
 pub fn read(alloc: Global, text: &[u8]) -> Result<Exp, Stop>
     requires { length text.now ≤ 1048576 }
     ensures { ReadsText text.now result }
@@ -71,12 +74,27 @@ fn parse_and_read(alloc: Global, laid: &[Token], end: At) -> Result<Exp, Stop>
     ensures { ReadsLaid laid.now end result }
 {
     match hdc_parse::parse(alloc, laid, end) {
-        Ok(_whole) => match program(alloc, laid) {
-            Ok(tree) => Ok(tree),
-            Err(ReadStop::NotYet) => Err(not_yet()),
-            Err(ReadStop::Want) => Err(Stop::Want),
-        },
+        Ok(whole) => {
+            check_whole(alloc, &whole)?;
+            match program(alloc, laid) {
+                Ok(tree) => Ok(tree),
+                Err(ReadStop::NotYet) => Err(not_yet()),
+                Err(ReadStop::Want) => Err(Stop::Want),
+            }
+        }
         Err(stop) => Err(parser_stop(stop)),
+    }
+}
+
+// Whether each chain and section of the prelude and of a program has a tree.
+fn check_whole(alloc: Global, whole: &Tree) -> Result<(), Stop>
+    ensures { ChecksWhole whole.now result }
+{
+    let prelude = prelude_tree(alloc)?;
+    match check_chains(alloc, &prelude, whole) {
+        Ok(()) => Ok(()),
+        Err(ChainsStop::Fixity(at)) => Err(refused(Kind::Fixity, at)),
+        Err(ChainsStop::Want) => Err(Stop::Want),
     }
 }
 

@@ -204,13 +204,12 @@ fn each_fault_and_trap_has_its_place(rt: HostRuntime) -> Result<(), Fail> {
 }
 
 // Programs of the language that are not of the form that is built.
-const NOT_BUILT: [&str; 17] = [
+const NOT_BUILT: [&str; 16] = [
     "",
     "main = x",
     "main = - 1",
     "main = 1 2",
     "main = 1 --> 2",
-    "main = 1 - - 2",
     "main = (-1)",
     "main1 = 1",
     "main = 1\nmain = 2",
@@ -314,6 +313,27 @@ fn what_is_no_program_is_refused_at_its_place(rt: HostRuntime) -> Result<(), Fai
     for (text, place) in SYNTAX {
         let left = left(rt.alloc(), text.as_bytes())?;
         let line = format!(in rt.alloc(); "refused syntax at {place}\n")?;
+        assert_eq!(rt; left.status, 1, "of {text}");
+        assert_eq!(rt; left.output.as_slice(), line.as_bytes(), "of {text}");
+    }
+    Ok(())
+}
+
+// Programs with a chain or a section that has no tree, and its place.
+const FIXITY: [(&str, &str); 6] = [
+    ("main = 1 - - 2", "1:12"),
+    ("main = 1 == 2 == 3", "1:15"),
+    ("main = (+ 1 == 2 == 3)", "1:9"),
+    ("main = f 1 where\n  f x = a . b !! x", "2:15"),
+    ("main = 1 + 2\ninfix 6 +\na + b = a\nf = 1 + 2 + 3", "4:11"),
+    ("main = let div = 1 in a . b `div` c", "1:30"),
+];
+
+#[test]
+fn each_chain_without_a_tree_has_its_place(rt: HostRuntime) -> Result<(), Fail> {
+    for (text, place) in FIXITY {
+        let left = left(rt.alloc(), text.as_bytes())?;
+        let line = format!(in rt.alloc(); "refused fixity at {place}\n")?;
         assert_eq!(rt; left.status, 1, "of {text}");
         assert_eq!(rt; left.output.as_slice(), line.as_bytes(), "of {text}");
     }

@@ -10,7 +10,7 @@ use std::alloc::{AllocError, Global};
 use std::test::Fail;
 
 // The laid-out tokens of a text, and its end.
-fn laid(alloc: Global, text: &[u8]) -> Result<(Tokens, At), Fail> {
+pub(super) fn laid(alloc: Global, text: &[u8]) -> Result<(Tokens, At), Fail> {
     if text.len() > 1_048_576 {
         return Err(Fail::from(AllocError));
     }

@@ -1,0 +1,13 @@
+use Rattle.std.proofs.Common.{◌≡◌, ◌≤◌, ◌++◌, length, drop}
+use Rattle.hdc_names.specs.Mirror.{tops_behind}
+use Rattle.hdc_names.specs.Fixities.{each_own}
+use Rattle.hdc_names.proofs.operator.bind_tops.Given as goal
+
+abbrev pub invariant-loop-count : goal.invariant-loop-count
+invariant-loop-count l = record {
+  within : l.count ≤ length l.tops;
+  put : l.scope ≡ each_own l.declarations (tops_behind (drop l.count l.tops)) ++ l.initial.scope;
+}
+
+abbrev pub decreases-loop-count : goal.decreases-loop-count
+decreases-loop-count l = l.count
