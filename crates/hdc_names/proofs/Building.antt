@@ -8,8 +8,8 @@ use Rattle.hdc_names.specs.declared.chain.NextOperand.{NextOperand}
 use Rattle.hdc_names.specs.declared.chain.Progress.{Progress}
 use Rattle.hdc_names.specs.declared.chain.Step.{Step}
 use Rattle.hdc_names.specs.declared.chain.Step.TheVariants as step
-use Rattle.hdc_names.specs.declared.stack.Waiting as code
-use Rattle.hdc_names.specs.declared.stack.Waiting.TheVariants as waiting
+use Rattle.hdc_names.specs.declared.waiting.Waiting as code
+use Rattle.hdc_names.specs.declared.waiting.Waiting.TheVariants as waiting
 use Rattle.hdc_names.specs.OperatorTrees.{sign, operand, operator, leaf}
 use Rattle.hdc_names.specs.Grouping.{taker, taken, Waiting, behind, signed, State, wants, has, closed, finish, fixity_of, left_of, behind_left, advance, read, tree_in}
 use Rattle.hdc_names.specs.Chain as chain

@@ -59,8 +59,8 @@ declarations_each f (x ∷ xs) = ap (λ z. declaration (f x) z) (declarations_ea
 pub aexp_tuple : (a : At) (e : Exp) (es : List CommaExp) (b : At) → aexp_of (v_aexp.Tuple a e es b) ≡ written.tuple a (written.expression (exp_of e) (each_expression comma_exp_of es))
 aexp_tuple a e es b = ap aexp_of (sym (v_aexp.rolls-Tuple a e es b)) ∙ fold-roll-Aexp written.Operand Alternative Declaration written.Operand written.Operand Qualifier RightSide Declarations Alternatives written.Operand Guarded Declarations Expression Qualifier Guarded Expression Linked Alternative Declaration aexp_step alt_step decl_step list_exp_step operand_step qual_step rhs_step where_step alts_step apply_step arrow_guard_step block_step comma_exp_step comma_qual_step equal_guard_step exp_step link_step next_alt_step next_decl_step (Aexp-F.Tuple a e es b) ∙ ap (λ z. written.tuple a (written.expression (exp_of e) z)) (expressions_each comma_exp_of es)
 
-pub alt_guarded : (p : Pat) (g : ArrowGuard) (gs : List ArrowGuard) (ds : Where) → alt_of (v_alt.Guarded p g gs ds) ≡ alternative (pat_of p) (guarded (guard (arrow_guard_of g).condition (arrow_guard_of g).value (each_guard arrow_guard_of gs)) (where_of ds))
-alt_guarded p g gs ds = ap alt_of (sym (v_alt.rolls-Guarded p g gs ds)) ∙ fold-roll-Alt written.Operand Alternative Declaration written.Operand written.Operand Qualifier RightSide Declarations Alternatives written.Operand Guarded Declarations Expression Qualifier Guarded Expression Linked Alternative Declaration aexp_step alt_step decl_step list_exp_step operand_step qual_step rhs_step where_step alts_step apply_step arrow_guard_step block_step comma_exp_step comma_qual_step equal_guard_step exp_step link_step next_alt_step next_decl_step (Alt-F.Guarded p g gs ds) ∙ ap (λ z. alternative (pat_of p) (guarded (guard (arrow_guard_of g).condition (arrow_guard_of g).value z) (where_of ds))) (guards_each arrow_guard_of gs)
+pub alt_guarded : (p : Pat) (g : ArrowGuard) (gs : List ArrowGuard) (ds : Where) → alt_of (v_alt.Guarded p g gs ds) ≡ alternative (pat_of p) (guarded (arrow_guard_of g).bar (guard (arrow_guard_of g).condition (arrow_guard_of g).value (each_guard arrow_guard_of gs)) (where_of ds))
+alt_guarded p g gs ds = ap alt_of (sym (v_alt.rolls-Guarded p g gs ds)) ∙ fold-roll-Alt written.Operand Alternative Declaration written.Operand written.Operand Qualifier RightSide Declarations Alternatives written.Operand Guarded Declarations Expression Qualifier Guarded Expression Linked Alternative Declaration aexp_step alt_step decl_step list_exp_step operand_step qual_step rhs_step where_step alts_step apply_step arrow_guard_step block_step comma_exp_step comma_qual_step equal_guard_step exp_step link_step next_alt_step next_decl_step (Alt-F.Guarded p g gs ds) ∙ ap (λ z. alternative (pat_of p) (guarded (arrow_guard_of g).bar (guard (arrow_guard_of g).condition (arrow_guard_of g).value z) (where_of ds))) (guards_each arrow_guard_of gs)
 
 pub list_exp_members : (a : At) (e : Exp) (es : List CommaExp) (b : At) → list_exp_of (v_list_exp.Members a e es b) ≡ written.list a (written.expression (exp_of e) (each_expression comma_exp_of es))
 list_exp_members a e es b = ap list_exp_of (sym (v_list_exp.rolls-Members a e es b)) ∙ fold-roll-ListExp written.Operand Alternative Declaration written.Operand written.Operand Qualifier RightSide Declarations Alternatives written.Operand Guarded Declarations Expression Qualifier Guarded Expression Linked Alternative Declaration aexp_step alt_step decl_step list_exp_step operand_step qual_step rhs_step where_step alts_step apply_step arrow_guard_step block_step comma_exp_step comma_qual_step equal_guard_step exp_step link_step next_alt_step next_decl_step (ListExp-F.Members a e es b) ∙ ap (λ z. written.list a (written.expression (exp_of e) z)) (expressions_each comma_exp_of es)
@@ -68,8 +68,8 @@ list_exp_members a e es b = ap list_exp_of (sym (v_list_exp.rolls-Members a e es
 pub list_exp_comprehension : (a : At) (e : Exp) (b : At) (q : Qual) (qs : List CommaQual) (c : At) → list_exp_of (v_list_exp.Comprehension a e b q qs c) ≡ written.comprehension a (exp_of e) (written.qualifier (qual_of q) (each_qualifier comma_qual_of qs))
 list_exp_comprehension a e b q qs c = ap list_exp_of (sym (v_list_exp.rolls-Comprehension a e b q qs c)) ∙ fold-roll-ListExp written.Operand Alternative Declaration written.Operand written.Operand Qualifier RightSide Declarations Alternatives written.Operand Guarded Declarations Expression Qualifier Guarded Expression Linked Alternative Declaration aexp_step alt_step decl_step list_exp_step operand_step qual_step rhs_step where_step alts_step apply_step arrow_guard_step block_step comma_exp_step comma_qual_step equal_guard_step exp_step link_step next_alt_step next_decl_step (ListExp-F.Comprehension a e b q qs c) ∙ ap (λ z. written.comprehension a (exp_of e) (written.qualifier (qual_of q) z)) (qualifiers_each comma_qual_of qs)
 
-pub rhs_guards : (g : EqualGuard) (gs : List EqualGuard) (ds : Where) → rhs_of (v_rhs.Guards g gs ds) ≡ guarded (guard (equal_guard_of g).condition (equal_guard_of g).value (each_guard equal_guard_of gs)) (where_of ds)
-rhs_guards g gs ds = ap rhs_of (sym (v_rhs.rolls-Guards g gs ds)) ∙ fold-roll-Rhs written.Operand Alternative Declaration written.Operand written.Operand Qualifier RightSide Declarations Alternatives written.Operand Guarded Declarations Expression Qualifier Guarded Expression Linked Alternative Declaration aexp_step alt_step decl_step list_exp_step operand_step qual_step rhs_step where_step alts_step apply_step arrow_guard_step block_step comma_exp_step comma_qual_step equal_guard_step exp_step link_step next_alt_step next_decl_step (Rhs-F.Guards g gs ds) ∙ ap (λ z. guarded (guard (equal_guard_of g).condition (equal_guard_of g).value z) (where_of ds)) (guards_each equal_guard_of gs)
+pub rhs_guards : (g : EqualGuard) (gs : List EqualGuard) (ds : Where) → rhs_of (v_rhs.Guards g gs ds) ≡ guarded (equal_guard_of g).bar (guard (equal_guard_of g).condition (equal_guard_of g).value (each_guard equal_guard_of gs)) (where_of ds)
+rhs_guards g gs ds = ap rhs_of (sym (v_rhs.rolls-Guards g gs ds)) ∙ fold-roll-Rhs written.Operand Alternative Declaration written.Operand written.Operand Qualifier RightSide Declarations Alternatives written.Operand Guarded Declarations Expression Qualifier Guarded Expression Linked Alternative Declaration aexp_step alt_step decl_step list_exp_step operand_step qual_step rhs_step where_step alts_step apply_step arrow_guard_step block_step comma_exp_step comma_qual_step equal_guard_step exp_step link_step next_alt_step next_decl_step (Rhs-F.Guards g gs ds) ∙ ap (λ z. guarded (equal_guard_of g).bar (guard (equal_guard_of g).condition (equal_guard_of g).value z) (where_of ds)) (guards_each equal_guard_of gs)
 
 pub alts_parts : (part : Alts) → alts_of part ≡ next_alternative (alt_of (out-Alts part).first) (each_alternative next_alt_of (out-Alts part).rest)
 alts_parts part = ap alts_of (sym (roll-out-Alts part)) ∙ fold-roll-Alts written.Operand Alternative Declaration written.Operand written.Operand Qualifier RightSide Declarations Alternatives written.Operand Guarded Declarations Expression Qualifier Guarded Expression Linked Alternative Declaration aexp_step alt_step decl_step list_exp_step operand_step qual_step rhs_step where_step alts_step apply_step arrow_guard_step block_step comma_exp_step comma_qual_step equal_guard_step exp_step link_step next_alt_step next_decl_step (out-Alts part) ∙ ap (λ z. next_alternative (alt_of (out-Alts part).first) z) (alternatives_each next_alt_of (out-Alts part).rest)
@@ -77,7 +77,7 @@ alts_parts part = ap alts_of (sym (roll-out-Alts part)) ∙ fold-roll-Alts writt
 pub apply_parts : (part : Apply) → apply_of part ≡ written.applied (aexp_of (out-Apply part).head) (each_operand aexp_of (out-Apply part).args)
 apply_parts part = ap apply_of (sym (roll-out-Apply part)) ∙ fold-roll-Apply written.Operand Alternative Declaration written.Operand written.Operand Qualifier RightSide Declarations Alternatives written.Operand Guarded Declarations Expression Qualifier Guarded Expression Linked Alternative Declaration aexp_step alt_step decl_step list_exp_step operand_step qual_step rhs_step where_step alts_step apply_step arrow_guard_step block_step comma_exp_step comma_qual_step equal_guard_step exp_step link_step next_alt_step next_decl_step (out-Apply part) ∙ ap (λ z. written.applied (aexp_of (out-Apply part).head) z) (operands_each aexp_of (out-Apply part).args)
 
-pub arrow_guard_parts : (part : ArrowGuard) → arrow_guard_of part ≡ record { condition = exp_of (out-ArrowGuard part).condition; value = exp_of (out-ArrowGuard part).exp }
+pub arrow_guard_parts : (part : ArrowGuard) → arrow_guard_of part ≡ record { bar = (out-ArrowGuard part).bar; condition = exp_of (out-ArrowGuard part).condition; value = exp_of (out-ArrowGuard part).exp }
 arrow_guard_parts part = ap arrow_guard_of (sym (roll-out-ArrowGuard part)) ∙ fold-roll-ArrowGuard written.Operand Alternative Declaration written.Operand written.Operand Qualifier RightSide Declarations Alternatives written.Operand Guarded Declarations Expression Qualifier Guarded Expression Linked Alternative Declaration aexp_step alt_step decl_step list_exp_step operand_step qual_step rhs_step where_step alts_step apply_step arrow_guard_step block_step comma_exp_step comma_qual_step equal_guard_step exp_step link_step next_alt_step next_decl_step (out-ArrowGuard part)
 
 pub block_parts : (part : Block) → block_of part ≡ declaration (decl_of (out-Block part).first) (each_declaration next_decl_of (out-Block part).rest)
@@ -89,7 +89,7 @@ comma_exp_parts part = ap comma_exp_of (sym (roll-out-CommaExp part)) ∙ fold-r
 pub comma_qual_parts : (part : CommaQual) → comma_qual_of part ≡ qual_of (out-CommaQual part).qual
 comma_qual_parts part = ap comma_qual_of (sym (roll-out-CommaQual part)) ∙ fold-roll-CommaQual written.Operand Alternative Declaration written.Operand written.Operand Qualifier RightSide Declarations Alternatives written.Operand Guarded Declarations Expression Qualifier Guarded Expression Linked Alternative Declaration aexp_step alt_step decl_step list_exp_step operand_step qual_step rhs_step where_step alts_step apply_step arrow_guard_step block_step comma_exp_step comma_qual_step equal_guard_step exp_step link_step next_alt_step next_decl_step (out-CommaQual part)
 
-pub equal_guard_parts : (part : EqualGuard) → equal_guard_of part ≡ record { condition = exp_of (out-EqualGuard part).condition; value = exp_of (out-EqualGuard part).exp }
+pub equal_guard_parts : (part : EqualGuard) → equal_guard_of part ≡ record { bar = (out-EqualGuard part).bar; condition = exp_of (out-EqualGuard part).condition; value = exp_of (out-EqualGuard part).exp }
 equal_guard_parts part = ap equal_guard_of (sym (roll-out-EqualGuard part)) ∙ fold-roll-EqualGuard written.Operand Alternative Declaration written.Operand written.Operand Qualifier RightSide Declarations Alternatives written.Operand Guarded Declarations Expression Qualifier Guarded Expression Linked Alternative Declaration aexp_step alt_step decl_step list_exp_step operand_step qual_step rhs_step where_step alts_step apply_step arrow_guard_step block_step comma_exp_step comma_qual_step equal_guard_step exp_step link_step next_alt_step next_decl_step (out-EqualGuard part)
 
 pub exp_parts : (part : Exp) → exp_of part ≡ chain (each_link link_of (out-Exp part).links) (out-Exp part).sign (operand_of (out-Exp part).last)

@@ -9,14 +9,14 @@ use Rattle.hdc_names.specs.declared.chain.Step.{Step}
 use Rattle.hdc_names.specs.declared.chain.Step.TheVariants as step
 use Rattle.hdc_names.specs.OperatorTrees.{leaf, binary, negated}
 use Rattle.hdc_names.specs.Chain.{Tree, IsTreeOf, IsBuilt, HasNoTree, steps_of, pieces, start, rest_read, read, read_out}
-use Rattle.hdc_names.specs.Sites.{Site, whole, rooted}
-use Rattle.hdc_names.specs.Trees.{IsRoot, HasTree, IsAtFault, IsOneOf, EachHasTree, IsBefore, FirstFault, place_in, place_of, is_operator, ends_with, whole_fault, root_fault, fault_of, is_before, noted, all_noted}
+use Rattle.hdc_names.specs.Sites.{Site, whole, rooted, node}
+use Rattle.hdc_names.specs.Trees.{IsRoot, HasTree, IsAtFault, IsOneOf, EachHasTree, IsBefore, FirstFault, place_in, place_of, is_operator, ends_with, whole_fault, root_fault, fault_of, is_before, noted, deep_of, all_noted, too_deep, NoneTooDeep, FirstTooDeep}
 use Rattle.hdc_names.proofs.Grouping.{one_tree}
 use Rattle.hdc_names.proofs.Building.{Answered, started, no_tree}
 
 -- ---- what reading says of a chain
 
-abbrev Told : Bool → List NextOperand → Result (List Step) ℕ → Type 0
+abbrev pub Told : Bool → List NextOperand → Result (List Step) ℕ → Type 0
 Told s rest (Ok steps) = IsBuilt s rest steps
 Told s rest (Err k) = HasNoTree s rest k
 
@@ -24,8 +24,12 @@ told_out : (s : Bool) (rest : List NextOperand) (r : Result Progress ℕ) → An
 told_out s rest (Ok p) h = h
 told_out s rest (Err k) h = h
 
-told : (s : Bool) (rest : List NextOperand) → Told s rest (read s rest)
+pub told : (s : Bool) (rest : List NextOperand) → Told s rest (read s rest)
 told s rest = told_out s rest (rest_read 1 rest (start s)) (started s rest)
+
+-- a chain that has no tree up to an operand has none
+pub no_tree_of : (s : Bool) (rest : List NextOperand) (k : ℕ) → HasNoTree s rest k → (t : Tree) → IsTreeOf s rest t → ⊥
+no_tree_of s rest k h t g = no_tree s rest k h t g
 
 -- one operand alone has a tree
 one_has : (s : Bool) → (t : Tree) × IsTreeOf s [] t
@@ -134,14 +138,17 @@ section_only s rest k p at (Ok steps) h f = by (ends_with k steps) refl
 
 is_fault : (s : Site) (at : At) → fault_of s ≡ Some at → IsAtFault s at
 is_fault (whole signed rest) at e = whole_is_fault signed rest (read signed rest) at (told signed rest) e
+is_fault (node d p) at e = absurd cc
 is_fault (rooted signed rest k p) at e = section_is_fault signed rest k p at (read signed rest) (told signed rest) e
 
 has_tree : (s : Site) → fault_of s ≡ None → HasTree s
 has_tree (whole signed rest) e = whole_has_tree signed rest (read signed rest) (told signed rest) e
+has_tree (node d p) e = tt
 has_tree (rooted signed rest k p) e = section_has_tree signed rest k p (read signed rest) (told signed rest) e
 
 fault_only : (s : Site) (at : At) → IsAtFault s at → fault_of s ≡ Some at
 fault_only (whole signed rest) at f = whole_only signed rest (read signed rest) at (told signed rest) f
+fault_only (node d p) at f = absurd f
 fault_only (rooted signed rest k p) at f = section_only signed rest k p at (read signed rest) (told signed rest) f
 
 -- ---- the first of two places
@@ -238,78 +245,79 @@ noted_least (Some b) (Some a) p h = by (is_before a b) refl h
 
 -- ---- the first of all
 
-abbrev Faults : Option At → List Site → At → Type 0
-Faults f ss p = (f ≡ Some p) ⊎ ((s : Site) × IsOneOf s ss × (fault_of s ≡ Some p))
-
-record Least (f : Option At) (ss : List Site) (at : At) : Type 0 where
-  origin : Faults f ss at
-  least : (p : At) → Faults f ss p → IsBefore p at → ⊥
-
-least_more : (x : Site) (ss : List Site) (f : Option At) (at : At) → Least (noted f (fault_of x)) ss at → Least f (x ∷ ss) at
-least_more x ss f at again = record { origin = from again.origin; least = among }
-  where
-    first_from : (f ≡ Some at) ⊎ (fault_of x ≡ Some at) → Faults f (x ∷ ss) at
-    first_from (inl h) = inl h
-    first_from (inr h) = inr (x, inl refl, h)
-
-    from : Faults (noted f (fault_of x)) ss at → Faults f (x ∷ ss) at
-    from (inl h) = first_from (noted_from f (fault_of x) at h)
-    from (inr h) = inr (h.0, inr h.1, h.2)
-
-    noted_among : (p : At) → (f ≡ Some p) ⊎ (fault_of x ≡ Some p) → IsBefore p at → ⊥
-    noted_among p h b = let m = noted_least f (fault_of x) p h in after_both p m.0 at m.2 (again.least m.0 (inl m.1)) b
-
-    site_among : (p : At) (s : Site) → IsOneOf s (x ∷ ss) → fault_of s ≡ Some p → IsBefore p at → ⊥
-    site_among p s (inl same) h b = noted_among p (inr (ap fault_of (sym same) ∙ h)) b
-    site_among p s (inr one) h b = again.least p (inr (s, one, h)) b
-
-    among : (p : At) → Faults f (x ∷ ss) p → IsBefore p at → ⊥
-    among p (inl h) b = noted_among p (inl h) b
-    among p (inr h) b = site_among p h.0 h.1 h.2 b
-
 same_place : (f : Option At) (p q : At) → f ≡ Some p → f ≡ Some q → p ≡ q
 same_place f p q g h = some (sym g ∙ h)
   where
     some : Some p ≡ Some q → p ≡ q
     some e = cc
 
-least_none : (f : Option At) (at p : At) → f ≡ Some at → Faults f [] p → IsBefore p at → ⊥
-least_none f at p e (inl h) b = never_before at (subst (λ z. IsBefore z at) (same_place f p at h e) b)
-least_none f at p e (inr h) b = absurd h.1
+module _ (what : Site → Option At) where
+  abbrev Faults : Option At → List Site → At → Type 0
+  Faults f ss p = (f ≡ Some p) ⊎ ((s : Site) × IsOneOf s ss × (what s ≡ Some p))
 
-least_of : (ss : List Site) (f : Option At) (at : At) → all_noted f ss ≡ Some at → Least f ss at
-least_of [] f at e = record { origin = inl e; least = λ p h b. least_none f at p e h b }
-least_of (x ∷ ss) f at e = least_more x ss f at (least_of ss (noted f (fault_of x)) at e)
+  record Least (f : Option At) (ss : List Site) (at : At) : Type 0 where
+    origin : Faults f ss at
+    least : (p : At) → Faults f ss p → IsBefore p at → ⊥
 
-abbrev NoneLeft : List Site → Option At → Type 0
-NoneLeft ss f = (f ≡ None) × ((s : Site) → IsOneOf s ss → fault_of s ≡ None)
+  least_more : (x : Site) (ss : List Site) (f : Option At) (at : At) → Least (noted f (what x)) ss at → Least f (x ∷ ss) at
+  least_more x ss f at again = record { origin = from again.origin; least = among }
+    where
+      first_from : (f ≡ Some at) ⊎ (what x ≡ Some at) → Faults f (x ∷ ss) at
+      first_from (inl h) = inl h
+      first_from (inr h) = inr (x, inl refl, h)
 
-none_more : (x : Site) (ss : List Site) (f : Option At) → NoneLeft ss (noted f (fault_of x)) → NoneLeft (x ∷ ss) f
-none_more x ss f again = (both.0, each)
-  where
-    both : (f ≡ None) × (fault_of x ≡ None)
-    both = noted_none f (fault_of x) again.0
+      from : Faults (noted f (what x)) ss at → Faults f (x ∷ ss) at
+      from (inl h) = first_from (noted_from f (what x) at h)
+      from (inr h) = inr (h.0, inr h.1, h.2)
 
-    each : (s : Site) → IsOneOf s (x ∷ ss) → fault_of s ≡ None
-    each s (inl same) = ap fault_of same ∙ both.1
-    each s (inr one) = again.1 s one
+      noted_among : (p : At) → (f ≡ Some p) ⊎ (what x ≡ Some p) → IsBefore p at → ⊥
+      noted_among p h b = let m = noted_least f (what x) p h in after_both p m.0 at m.2 (again.least m.0 (inl m.1)) b
 
-none_left : (ss : List Site) (f : Option At) → all_noted f ss ≡ None → NoneLeft ss f
-none_left [] f e = (e, λ s one. absurd one)
-none_left (x ∷ ss) f e = none_more x ss f (none_left ss (noted f (fault_of x)) e)
+      site_among : (p : At) (s : Site) → IsOneOf s (x ∷ ss) → what s ≡ Some p → IsBefore p at → ⊥
+      site_among p s (inl same) h b = noted_among p (inr (ap what (sym same) ∙ h)) b
+      site_among p s (inr one) h b = again.least p (inr (s, one, h)) b
+
+      among : (p : At) → Faults f (x ∷ ss) p → IsBefore p at → ⊥
+      among p (inl h) b = noted_among p (inl h) b
+      among p (inr h) b = site_among p h.0 h.1 h.2 b
+
+  least_none : (f : Option At) (at p : At) → f ≡ Some at → Faults f [] p → IsBefore p at → ⊥
+  least_none f at p e (inl h) b = never_before at (subst (λ z. IsBefore z at) (same_place f p at h e) b)
+  least_none f at p e (inr h) b = absurd h.1
+
+  least_of : (ss : List Site) (f : Option At) (at : At) → all_noted what f ss ≡ Some at → Least f ss at
+  least_of [] f at e = record { origin = inl e; least = λ p h b. least_none f at p e h b }
+  least_of (x ∷ ss) f at e = least_more x ss f at (least_of ss (noted f (what x)) at e)
+
+  abbrev NoneLeft : List Site → Option At → Type 0
+  NoneLeft ss f = (f ≡ None) × ((s : Site) → IsOneOf s ss → what s ≡ None)
+
+  none_more : (x : Site) (ss : List Site) (f : Option At) → NoneLeft ss (noted f (what x)) → NoneLeft (x ∷ ss) f
+  none_more x ss f again = (both.0, each)
+    where
+      both : (f ≡ None) × (what x ≡ None)
+      both = noted_none f (what x) again.0
+
+      each : (s : Site) → IsOneOf s (x ∷ ss) → what s ≡ None
+      each s (inl same) = ap what same ∙ both.1
+      each s (inr one) = again.1 s one
+
+  none_left : (ss : List Site) (f : Option At) → all_noted what f ss ≡ None → NoneLeft ss f
+  none_left [] f e = (e, λ s one. absurd one)
+  none_left (x ∷ ss) f e = none_more x ss f (none_left ss (noted f (what x)) e)
 
 -- where nothing is noted, each has a tree
-pub none_found : (ss : List Site) → all_noted None ss ≡ None → EachHasTree ss
-none_found ss e s one = has_tree s ((none_left ss None e).1 s one)
+pub none_found : (ss : List Site) → all_noted fault_of None ss ≡ None → EachHasTree ss
+none_found ss e s one = has_tree s ((none_left fault_of ss None e).1 s one)
 
 -- what is noted is the first fault
-pub first_found : (ss : List Site) (at : At) → all_noted None ss ≡ Some at → FirstFault ss at
-first_found ss at e = by (least_of ss None at e).origin
+pub first_found : (ss : List Site) (at : At) → all_noted fault_of None ss ≡ Some at → FirstFault ss at
+first_found ss at e = by (least_of fault_of ss None at e).origin
   where
-    least : (p : At) → Faults None ss p → IsBefore p at → ⊥
-    least = (least_of ss None at e).least
+    least : (p : At) → Faults fault_of None ss p → IsBefore p at → ⊥
+    least = (least_of fault_of ss None at e).least
 
-    by : Faults None ss at → FirstFault ss at
+    by : Faults fault_of None ss at → FirstFault ss at
     by (inl h) = absurd cc
     by (inr h) = record {
       site = h.0;
@@ -317,6 +325,38 @@ first_found ss at e = by (least_of ss None at e).origin
       at_fault = is_fault h.0 at h.2;
       first = λ s one p f b. least p (inr (s, one, fault_only s p f)) b;
     }
+
+-- ---- nodes that are too deep
+
+deep_node : (p : At) → deep_of (node too_deep p) ≡ Some p
+deep_node p = refl
+
+node_from : (s : Site) (at : At) → deep_of s ≡ Some at → s ≡ node too_deep at
+node_from (whole signed rest) at e = absurd cc
+node_from (rooted signed rest k p) at e = absurd cc
+node_from (node d p) at e = by (d == too_deep) refl e
+  where
+    by : (b : Bool) → (d == too_deep) ≡ b → (if b then Some p else None) ≡ Some at → node d p ≡ node too_deep at
+    by true is e = let same : p ≡ at = cc in ap (λ n. node n p) (eqb-true d too_deep is) ∙ ap (node too_deep) same
+    by false is e = absurd cc
+
+-- where nothing is noted, none is too deep
+pub none_deep : (ss : List Site) → all_noted deep_of None ss ≡ None → NoneTooDeep ss
+none_deep ss e p one = by (sym (deep_node p) ∙ (none_left deep_of ss None e).1 (node too_deep p) one)
+  where
+    by : Some p ≡ None → ⊥
+    by e = cc
+
+-- what is noted is the first that is too deep
+pub first_deep : (ss : List Site) (at : At) → all_noted deep_of None ss ≡ Some at → FirstTooDeep ss at
+first_deep ss at e = by (least_of deep_of ss None at e).origin
+  where
+    least : (p : At) → Faults deep_of None ss p → IsBefore p at → ⊥
+    least = (least_of deep_of ss None at e).least
+
+    by : Faults deep_of None ss at → FirstTooDeep ss at
+    by (inl h) = absurd cc
+    by (inr h) = record { one_of = subst (λ s. IsOneOf s ss) (node_from h.0 at h.2) h.1; first = λ p one b. least p (inr (node too_deep p, one, deep_node p)) b }
 
 -- ---- one answer
 
@@ -337,7 +377,12 @@ fault_once ss p q g h = one_of_two p q (h.first g.site g.one_of p g.at_fault) (g
 -- what has a tree is at fault nowhere
 tree_or_fault : (s : Site) (at : At) → HasTree s → IsAtFault s at → ⊥
 tree_or_fault (whole signed rest) at h f = no_tree signed rest f.0 f.1 h.0 h.1
+tree_or_fault (node d p) at h f = absurd f
 tree_or_fault (rooted signed rest k p) at h f = f.0 h.0 h.1 h.2
+
+-- two first ones that are too deep stand at one place
+pub deep_once : (ss : List Site) (p q : At) → FirstTooDeep ss p → FirstTooDeep ss q → p ≡ q
+deep_once ss p q g h = one_of_two p q (h.first p g.one_of) (g.first q h.one_of)
 
 pub fault_or_none : (ss : List Site) (p : At) → FirstFault ss p → EachHasTree ss → ⊥
 fault_or_none ss p g h = tree_or_fault g.site p (h g.site g.one_of) g.at_fault

@@ -9,8 +9,8 @@ use Rattle.hdc_names.specs.declared.chain.Step.{Step}
 use Rattle.hdc_names.specs.declared.chain.Step.TheVariants as step
 use Rattle.hdc_names.specs.declared.chain.ChainStop.{ChainStop}
 use Rattle.hdc_names.specs.declared.chain.ChainStop.TheVariants as stop
-use Rattle.hdc_names.specs.declared.stack.Waiting.{Waiting}
-use Rattle.hdc_names.specs.declared.stack.Waiting.TheVariants as waiting
+use Rattle.hdc_names.specs.declared.waiting.Waiting.{Waiting}
+use Rattle.hdc_names.specs.declared.waiting.Waiting.TheVariants as waiting
 use Rattle.hdc_names.specs.OperatorTrees.{sign, Element, operand, operator, minus, Grouping, leaf, binary, negated, Resolves}
 use Rattle.hdc_names.specs.Grouping.{taker, taken}
 
@@ -80,11 +80,6 @@ fixity_of (waiting.Sign k) = sign
 abbrev pub step_of : Waiting → Step
 step_of (waiting.Operator k f) = step.Operator k
 step_of (waiting.Sign k) = step.Sign k
-
--- the last one was taken away, if there was one
-abbrev pub IsPopped : Option Waiting → List Waiting → List Waiting → Type 0
-IsPopped None old new = (old ≡ []) × (new ≡ [])
-IsPopped (Some w) old new = old ≡ w ∷ new
 
 -- the first operand is read
 abbrev pub start : Bool → Progress

@@ -1,5 +1,7 @@
 -- The written program that a tree in memory holds, one clause for each production.
 use Rattle.std.specs.Prelude.{List, [], ◌∷◌}
+use Rattle.hdc_base.specs.declared.place.At.{At}
+use Rattle.hdc_tree.specs.declared.name.CommaVar.{CommaVar}
 use Rattle.hdc_tree.specs.declared.name.Name.{Name}
 use Rattle.hdc_tree.specs.declared.name.Var.{Var}
 use Rattle.hdc_tree.specs.declared.name.Var.TheVariants as var
@@ -36,6 +38,7 @@ use Rattle.hdc_tree.specs.declared.expression.Exp.{Exp, Exp-F, fold-Exp}
 use Rattle.hdc_tree.specs.declared.expression.Link.{Link, Link-F, fold-Link}
 use Rattle.hdc_tree.specs.declared.expression.NextAlt.{NextAlt, NextAlt-F, fold-NextAlt}
 use Rattle.hdc_tree.specs.declared.expression.NextDecl.{NextDecl, NextDecl-F, fold-NextDecl}
+use Rattle.hdc_names.specs.TypeMirror.{type_exp_of}
 use Rattle.hdc_names.specs.Written as written
 use Rattle.hdc_names.specs.Written.{Pattern, Patterns, no_pattern, pattern, named, named_as, anything, built, literal_pattern, negative_pattern, unit_pattern, nil_pattern, pattern_in_parentheses, tuple_pattern, list_pattern, cons_pattern}
 use Rattle.hdc_names.specs.Written.{Expression, chain, Links, no_link, link, Operands, no_operand, Expressions, no_expression, Qualifier, generator, condition, let_qualifier, Qualifiers, no_qualifier, Alternative, blank, alternative, Alternatives, no_alternative, next_alternative, RightSide, plain, guarded, Guards, no_guard, guard, Declaration, empty, signature, equation, binding, Declarations, no_declaration, declaration}
@@ -90,8 +93,9 @@ cons_pat_of = fold-ConsPat Pattern Pattern Pattern Pattern Pattern apat_step lef
 abbrev pub pat_of : Pat → Pattern
 pat_of = fold-Pat Pattern Pattern Pattern Pattern Pattern apat_step left_pat_step comma_pat_step cons_pat_step pat_step
 
--- a condition and what it guards, and an operand with its sign and the operator behind it
+-- a condition and what it guards, behind a bar, and an operand with its sign and the operator behind it
 pub record Guarded : Type 0 where
+  pub bar : At
   pub condition : Expression
   pub value : Expression
 
@@ -113,6 +117,14 @@ abbrev pub head_name : Head → Name
 head_name (head.Prefix x ps) = var_name x
 head_name (head.Infix p o q) = op_name o
 head_name (head.Paren a p o q b r rs) = op_name o
+
+-- the names of a signature
+abbrev pub names_behind : List CommaVar → List Name
+names_behind [] = []
+names_behind (x ∷ xs) = var_name x.var ∷ names_behind xs
+
+abbrev pub signed_names : Var → List CommaVar → List Name
+signed_names x xs = var_name x ∷ names_behind xs
 
 abbrev pub head_patterns : Head → Patterns
 head_patterns (head.Prefix x ps) = each_pattern apat_of ps
@@ -192,11 +204,11 @@ aexp_step (Aexp-F.RightSection a o e b) = written.right_section a o e
 abbrev pub alt_step : Alt-F written.Operand Alternative Declaration written.Operand written.Operand Qualifier RightSide Declarations Alternatives written.Operand Guarded Declarations Expression Qualifier Guarded Expression Linked Alternative Declaration → Alternative
 alt_step Alt-F.Blank = blank
 alt_step (Alt-F.Arrow p a e ds) = alternative (pat_of p) (plain e ds)
-alt_step (Alt-F.Guarded p g gs ds) = alternative (pat_of p) (guarded (guard g.condition g.value (all_guards gs)) ds)
+alt_step (Alt-F.Guarded p g gs ds) = alternative (pat_of p) (guarded g.bar (guard g.condition g.value (all_guards gs)) ds)
 
 abbrev pub decl_step : Decl-F written.Operand Alternative Declaration written.Operand written.Operand Qualifier RightSide Declarations Alternatives written.Operand Guarded Declarations Expression Qualifier Guarded Expression Linked Alternative Declaration → Declaration
 decl_step Decl-F.Empty = empty
-decl_step (Decl-F.Signature x xs a t) = signature
+decl_step (Decl-F.Signature x xs a t) = signature (signed_names x xs) (type_exp_of t)
 decl_step (Decl-F.Equation h r) = equation (head_name h) (head_patterns h) r
 decl_step (Decl-F.Binding p r) = binding (pat_of p) r
 
@@ -215,11 +227,11 @@ operand_step (Operand-F.Case a e b alts) = written.case_of a e alts
 abbrev pub qual_step : Qual-F written.Operand Alternative Declaration written.Operand written.Operand Qualifier RightSide Declarations Alternatives written.Operand Guarded Declarations Expression Qualifier Guarded Expression Linked Alternative Declaration → Qualifier
 qual_step (Qual-F.Generator p a e) = generator (pat_of p) e
 qual_step (Qual-F.Condition e) = condition e
-qual_step (Qual-F.Local a ds) = let_qualifier ds
+qual_step (Qual-F.Local a ds) = let_qualifier a ds
 
 abbrev pub rhs_step : Rhs-F written.Operand Alternative Declaration written.Operand written.Operand Qualifier RightSide Declarations Alternatives written.Operand Guarded Declarations Expression Qualifier Guarded Expression Linked Alternative Declaration → RightSide
 rhs_step (Rhs-F.Equal a e ds) = plain e ds
-rhs_step (Rhs-F.Guards g gs ds) = guarded (guard g.condition g.value (all_guards gs)) ds
+rhs_step (Rhs-F.Guards g gs ds) = guarded g.bar (guard g.condition g.value (all_guards gs)) ds
 
 abbrev pub where_step : Where-F written.Operand Alternative Declaration written.Operand written.Operand Qualifier RightSide Declarations Alternatives written.Operand Guarded Declarations Expression Qualifier Guarded Expression Linked Alternative Declaration → Declarations
 where_step Where-F.Absent = no_declaration
@@ -232,7 +244,7 @@ abbrev pub apply_step : Apply-F written.Operand Alternative Declaration written.
 apply_step part = written.applied part.head (all_operands part.args)
 
 abbrev pub arrow_guard_step : ArrowGuard-F written.Operand Alternative Declaration written.Operand written.Operand Qualifier RightSide Declarations Alternatives written.Operand Guarded Declarations Expression Qualifier Guarded Expression Linked Alternative Declaration → Guarded
-arrow_guard_step part = record { condition = part.condition; value = part.exp }
+arrow_guard_step part = record { bar = part.bar; condition = part.condition; value = part.exp }
 
 abbrev pub block_step : Block-F written.Operand Alternative Declaration written.Operand written.Operand Qualifier RightSide Declarations Alternatives written.Operand Guarded Declarations Expression Qualifier Guarded Expression Linked Alternative Declaration → Declarations
 block_step part = declaration part.first (all_declarations part.rest)
@@ -244,7 +256,7 @@ abbrev pub comma_qual_step : CommaQual-F written.Operand Alternative Declaration
 comma_qual_step part = part.qual
 
 abbrev pub equal_guard_step : EqualGuard-F written.Operand Alternative Declaration written.Operand written.Operand Qualifier RightSide Declarations Alternatives written.Operand Guarded Declarations Expression Qualifier Guarded Expression Linked Alternative Declaration → Guarded
-equal_guard_step part = record { condition = part.condition; value = part.exp }
+equal_guard_step part = record { bar = part.bar; condition = part.condition; value = part.exp }
 
 abbrev pub exp_step : Exp-F written.Operand Alternative Declaration written.Operand written.Operand Qualifier RightSide Declarations Alternatives written.Operand Guarded Declarations Expression Qualifier Guarded Expression Linked Alternative Declaration → Expression
 exp_step part = chain (all_links part.links) part.sign part.last

@@ -7,6 +7,7 @@ use Rattle.hdc_tree.specs.declared.name.Name.{Name}
 use Rattle.hdc_tree.specs.declared.name.Op.{Op}
 use Rattle.hdc_tree.specs.declared.name.Sign.{Sign}
 use Rattle.hdc_tree.specs.declared.name.Var.{Var}
+use Rattle.hdc_names.specs.WrittenTypes.{WrittenType}
 
 mutual
   -- a pattern
@@ -71,7 +72,7 @@ mutual
   pub data Qualifier : Type 0 where
     generator : Pattern → Expression → Qualifier
     condition : Expression → Qualifier
-    let_qualifier : Declarations → Qualifier
+    let_qualifier : At → Declarations → Qualifier
 
   pub data Qualifiers : Type 0 where
     no_qualifier : Qualifiers
@@ -85,10 +86,10 @@ mutual
     no_alternative : Alternatives
     next_alternative : Alternative → Alternatives → Alternatives
 
-  -- an expression, or guarded ones, and the declarations behind where
+  -- an expression, or guarded ones behind the first bar, and the declarations behind where
   pub data RightSide : Type 0 where
     plain : Expression → Declarations → RightSide
-    guarded : Guards → Declarations → RightSide
+    guarded : At → Guards → Declarations → RightSide
 
   -- conditions, and what is guarded by each
   pub data Guards : Type 0 where
@@ -97,7 +98,8 @@ mutual
 
   pub data Declaration : Type 0 where
     empty : Declaration
-    signature : Declaration
+    -- the names of a signature, and their type
+    signature : List Name → WrittenType → Declaration
     -- what an equation defines, its parameters, and its right side
     equation : Name → Patterns → RightSide → Declaration
     binding : Pattern → RightSide → Declaration
@@ -129,7 +131,7 @@ abbrev mutual
 -- the names that declarations bind
 abbrev pub bound : Declaration → List Name
 bound empty = []
-bound signature = []
+bound (signature xs t) = []
 bound (equation x ps r) = x ∷ []
 bound (binding p r) = variables p
 

@@ -5,7 +5,8 @@ ghost use Rattle.hdc_names.specs.Chain as spec;
 ghost use Rattle.hdc_names.specs.Chain.{Answers, Reads, IsRead};
 
 use crate::fixity::{Fixity, Taker, between, sign};
-use crate::stack::{Stack, Waiting};
+use crate::stack::Stack;
+use crate::waiting::Waiting;
 use hdc_base::At;
 use sqlite_items::Items;
 use std::alloc::{AllocError, AllocFailed, Global};
@@ -74,7 +75,7 @@ pub fn steps(alloc: Global, signed: bool, rest: &[NextOperand]) -> Result<Items<
 /// What waits, and the steps so far, where an operand has been read.
 #[derive(Drop)]
 struct Progress {
-    stack: Stack,
+    stack: Stack<Waiting>,
     steps: Items<Step>,
 }
 

@@ -14,17 +14,24 @@
 mod binders;
 mod chain;
 mod check;
+mod depth;
+mod first;
 mod fixity;
+mod found;
+mod joining;
 mod laws;
 mod operator;
+mod pattern_nodes;
 mod scope;
 mod site;
 mod stack;
 #[cfg(test)]
 mod tests;
+mod type_nodes;
+mod waiting;
 mod walk;
 
 pub use chain::{ChainStop, NextOperand, Step, steps};
-pub use check::{ChainsStop, check_chains};
+pub use check::{TreesStop, check_trees};
 pub use fixity::Fixity;
 pub use laws::{no_tree_behind, one_tree};

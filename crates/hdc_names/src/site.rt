@@ -14,18 +14,18 @@ use hdc_tree::{Expression, Link, Op, Sign};
 use sqlite_items::Items;
 use std::alloc::{AllocError, Global};
 
-/// Where the chain of an expression is at fault, if it is.
+/// The operators of the chain of an expression, and the operands behind them.
 #[tactic(auto, using(crate::proofs::ExpressionMirror::mirrored_expressions))]
-pub(crate) fn chain_fault(
+pub(crate) fn operators_of(
     alloc: Global,
     scope: &Scope<Fixity>,
     exp: &Expression,
-) -> Result<Option<At>, AllocError>
-    ensures { IfOk result (λ found. found ≡ fault_of (spec.chain_site scope.now (mirror.exp_of exp.now))) }
+) -> Result<Items<NextOperand>, AllocError>
+    ensures { IfOk result (λ rest. rest ≡ spec.rest_in scope.now (mirror.exp_of exp.now)) }
 {
     let mut rest = Items::new(alloc);
     push_rest(scope, exp, &mut rest)?;
-    whole_fault(alloc, is_signed(exp), rest.as_slice())
+    Ok(rest)
 }
 
 /// Where a section is at fault with its operator on the right, if it is.
@@ -67,8 +67,9 @@ pub(crate) fn right_fault(
     root_fault(alloc, false, rest.as_slice(), 1, place_of_op(op))
 }
 
+/// Whether the first operand of the chain of an expression has a sign.
 #[tactic(auto, using(crate::proofs::ExpressionMirror::mirrored_expressions))]
-fn is_signed(exp: &Expression) -> bool
+pub(crate) fn is_signed(exp: &Expression) -> bool
     ensures { result ≡ spec.is_minus (spec.sign_of (mirror.exp_of exp.now)) }
 {
     match first_sign(exp.links.as_slice(), exp.sign) {
@@ -133,16 +134,6 @@ fn next_in(scope: &Scope<Fixity>, op: &Op, sign: Sign) -> NextOperand
     }
 }
 
-fn whole_fault(alloc: Global, signed: bool, rest: &[NextOperand]) -> Result<Option<At>, AllocError>
-    ensures { IfOk result (λ found. found ≡ fault_of (spec.whole signed rest.now)) }
-{
-    match steps(alloc, signed, rest) {
-        Ok(_steps) => Ok(None),
-        Err(ChainStop::NoTree(number)) => Ok(place_of(number, rest)),
-        Err(ChainStop::Want) => Err(AllocError),
-    }
-}
-
 fn root_fault(
     alloc: Global,
     signed: bool,
@@ -159,7 +150,8 @@ fn root_fault(
     }
 }
 
-fn place_of(number: usize, rest: &[NextOperand]) -> Option<At>
+/// The place of the last operator up to an operand, by its number.
+pub(crate) fn place_of(number: usize, rest: &[NextOperand]) -> Option<At>
     ensures { result ≡ place_of number rest.now }
 {
     if number == 0 {

@@ -1,6 +1,7 @@
 //! The tables: what each program gives, and what comes of other words, long files and failures.
 
 mod chains;
+mod depths;
 mod job;
 mod outside;
 mod rows;

@@ -4,7 +4,6 @@ use Rattle.std.specs.declared.alloc.Global.{Global}
 use Rattle.std.specs.Prelude.{Vec}
 use Rattle.hdc_base.specs.declared.place.At.{At}
 use Rattle.hdc_base.specs.declared.token.Token as text_token
-use Rattle.hdc_base.specs.declared.refusal.Kind.TheVariants as kind
 use Rattle.hdc_base.specs.declared.refusal.Stop.{Stop}
 use Rattle.hdc_base.specs.declared.refusal.Stop.TheVariants as text_stop
 use Rattle.hdc_tree.specs.declared.exp.Exp.{Exp}
@@ -13,9 +12,11 @@ use Rattle.hdc_tree.specs.declared.token.Token.{Token}
 use Rattle.hdc_tree.specs.Tree.{Tree, tree_of}
 use Rattle.hdc_tree.specs.Lexemes.{braced}
 use Rattle.hdc_tree.specs.Program.{IsProgram, SpellsNone}
+use Rattle.hdc_names.specs.declared.check.TreesStop.{TreesStop}
+use Rattle.hdc_names.specs.declared.check.TreesStop.TheVariants as checking
 use Rattle.hdc_code.specs.declared.instr.Instr.{Instr}
 use Rattle.hdc_top.specs.Code.{CarriesMeaning}
-use Rattle.hdc_top.specs.Stopped.{refused_at, HasLayout, LacksLayout, HasTrees, LacksTree, SpellsLaid, SpellsTree, StopsLaid, IsStopped}
+use Rattle.hdc_top.specs.Stopped.{trees_stop, HasLayout, LacksLayout, HaveTrees, HasTrees, SpellsLaid, SpellsTree, StopsLaid, IsStopped}
 use Rattle.hdc_top.specs.declared.reader.ReadStop.{ReadStop}
 use Rattle.hdc_top.specs.declared.reader.ReadStop.TheVariants as stop
 
@@ -41,12 +42,18 @@ ReadsProgram laid (Ok e) = IsProgram laid (tree_of e)
 ReadsProgram laid (Err stop.NotYet) = SpellsNone laid
 ReadsProgram laid (Err stop.Want) = Unit {0}
 
--- each chain and section has a tree, or it is refused where the first has none
+-- each chain and section has a tree, and none is too deep, or why not
+pub record StopsWhole (whole : program.Tree) (stop : Stop) : Type 0 where
+  pub why : TreesStop
+  pub is : stop ≡ trees_stop why
+  pub trees : HaveTrees whole (Err why)
+  pub told : why ≡ checking.Want → ⊥
+
 abbrev pub ChecksWhole : program.Tree → Result (Unit {0}) Stop → Type 0
 ChecksWhole whole (Ok done) = HasTrees whole
 ChecksWhole whole (Err text_stop.Want) = Unit {0}
-ChecksWhole whole (Err (text_stop.Refused r)) = (at : At) × (text_stop.Refused r ≡ refused_at kind.Fixity at) × LacksTree whole at
-ChecksWhole whole (Err (text_stop.Limit l)) = ⊥
+ChecksWhole whole (Err (text_stop.Refused r)) = StopsWhole whole (text_stop.Refused r)
+ChecksWhole whole (Err (text_stop.Limit l)) = StopsWhole whole (text_stop.Limit l)
 
 -- the laid-out tokens spell this tree, or why they spell none
 abbrev pub ReadsLaid : List text_token.Token → At → Result Exp Stop → Type 0

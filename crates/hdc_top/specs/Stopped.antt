@@ -23,7 +23,8 @@ use Rattle.hdc_tree.specs.Program.{IsProgram, SpellsNone}
 use Rattle.hdc_parse.specs.declared.stop.ParseStop.{ParseStop}
 use Rattle.hdc_parse.specs.declared.stop.ParseStop.TheVariants as parsing
 use Rattle.hdc_parse.specs.Exact.{IsParsed, IsSyntax, IsNesting}
-use Rattle.hdc_names.specs.declared.check.ChainsStop.TheVariants as checking
+use Rattle.hdc_names.specs.declared.check.TreesStop.{TreesStop}
+use Rattle.hdc_names.specs.declared.check.TreesStop.TheVariants as checking
 use Rattle.hdc_names.specs.Mirror.{tops_of}
 use Rattle.hdc_names.specs.Trees.{IsChecked}
 use Rattle.hdc_top.specs.Prelude.{IsPrelude}
@@ -60,19 +61,24 @@ parser_stop (parsing.Syntax at) = refused_at kind.Syntax at
 parser_stop (parsing.Nesting at) = stop.Limit (limit.Nesting which.Program at)
 parser_stop parsing.Want = stop.Want
 
--- each chain and section of the prelude and of the program has a tree
-pub record HasTrees (whole : program.Tree) : Type 0 where
+-- what a program is, whose chains have no trees or too deep ones
+abbrev pub trees_stop : TreesStop → Stop
+trees_stop (checking.Fixity at) = refused_at kind.Fixity at
+trees_stop (checking.Depth at) = stop.Limit (limit.Depth at)
+trees_stop checking.Want = stop.Want
+
+-- what is said of the chains and sections of a program beside those of the prelude, and of the depths of their trees
+pub record HaveTrees (whole : program.Tree) (result : Result (Unit {0}) TreesStop) : Type 0 where
   pub prelude : program.Tree
   pub is : IsPrelude prelude
-  pub checked : IsChecked (tops_of prelude) (tops_of whole) (Ok tt)
+  pub checked : IsChecked (tops_of prelude) (tops_of whole) result
 
--- a chain or section has no tree; the first place of those of the prelude, or else of the program
-pub record LacksTree (whole : program.Tree) (at : At) : Type 0 where
-  pub prelude : program.Tree
-  pub is : IsPrelude prelude
-  pub checked : IsChecked (tops_of prelude) (tops_of whole) (Err (checking.Fixity at))
+-- each of them has a tree, and none is too deep
+abbrev pub HasTrees : program.Tree → Type 0
+HasTrees whole = HaveTrees whole (Ok tt)
 
--- the laid-out tokens are a program of the language, whose chains and sections have trees, and spell the tree
+-- the laid-out tokens are a program of the language, whose chains and sections have trees that are not too deep, and spell
+-- the tree
 pub record SpellsLaid (laid : List Token) (tree : Tree) : Type 0 where
   pub whole : program.Tree
   pub parsed : IsParsed laid whole
@@ -86,11 +92,11 @@ pub record SpellsTree (text : List ℕ) (tree : Tree) : Type 0 where
   pub spelled : SpellsLaid laid tree
 
 -- why laid-out tokens spell no tree: no program goes on with one of them, one nests too deep, or they are a program, and a
--- chain or section has no tree, or all have, but the program is not of the form that is built
+-- chain or section has no tree, or a tree is too deep, or neither, but the program is not of the form that is built
 pub data StopsLaid (laid : List Token) (end : At) : Stop → Type 0 where
   syntax_at : (at : At) → IsSyntax laid end at → StopsLaid laid end (parser_stop (parsing.Syntax at))
   nesting_at : (at : At) → IsNesting laid end at → StopsLaid laid end (parser_stop (parsing.Nesting at))
-  fixity_at : (whole : program.Tree) (at : At) → IsParsed laid whole → LacksTree whole at → StopsLaid laid end (refused_at kind.Fixity at)
+  trees_at : (whole : program.Tree) (s : TreesStop) → IsParsed laid whole → HaveTrees whole (Err s) → (s ≡ checking.Want → ⊥) → StopsLaid laid end (trees_stop s)
   not_built : (whole : program.Tree) → IsParsed laid whole → HasTrees whole → SpellsNone laid → StopsLaid laid end not_yet
 
 -- why a text has no laid-out tokens: its lexemes or its layout are refused, or it has too many lexemes
@@ -114,6 +120,15 @@ pub record NestsTooDeep (text : List ℕ) : Type 0 where
   pub at : At
   pub nesting : IsNesting laid (end_place text) at
 
--- a text passes a limit: it has too many bytes, or too many lexemes, or nests too deep
+-- a tree of a text's program or of the prelude is too deep, and each chain and section has one
+pub record HasDeepTree (text : List ℕ) : Type 0 where
+  pub laid : List Token
+  pub layout : HasLayout text laid
+  pub whole : program.Tree
+  pub parsed : IsParsed laid whole
+  pub at : At
+  pub deep : HaveTrees whole (Err (checking.Depth at))
+
+-- a text passes a limit: it has too many bytes, or too many lexemes, or nests too deep, or a tree of it is too deep
 abbrev pub PassesLimit : List ℕ → Type 0
-PassesLimit text = (most_bytes < length text) ⊎ (((at : At) × Lexes form.Program text (Err (lex.Tokens at))) ⊎ NestsTooDeep text)
+PassesLimit text = (most_bytes < length text) ⊎ (((at : At) × Lexes form.Program text (Err (lex.Tokens at))) ⊎ (NestsTooDeep text ⊎ HasDeepTree text))

@@ -2,7 +2,7 @@
 
 ghost use Rattle.std.specs.Prelude.{◌≡◌, ◌≤◌, ℕ, length};
 ghost use Rattle.hdc_top.specs.declared.reader.ReadStop.TheVariants as stop;
-ghost use Rattle.hdc_top.specs.Stopped.{layout_stop, lexer_stop, not_yet, parser_stop, refused_at};
+ghost use Rattle.hdc_top.specs.Stopped.{layout_stop, lexer_stop, not_yet, parser_stop, refused_at, trees_stop};
 ghost use Rattle.hdc_top.specs.Results.{ChecksWhole, LaysText, ReadsLaid, ReadsProgram, ReadsText};
 
 use crate::lexemes::{arithmetic, between_braces};
@@ -11,7 +11,7 @@ use crate::prelude::prelude_tree;
 use hdc_base::{At, Kind, Limit, Refusal, Stop, Token, Tokens, Which};
 use hdc_layout::{LayoutStop, lay_out};
 use hdc_lex::{Form, LexStop, end_of, lex};
-use hdc_names::{ChainsStop, check_chains};
+use hdc_names::{TreesStop, check_trees};
 use hdc_parse::ParseStop;
 use hdc_tree::{Exp, Tree};
 use std::alloc::{AllocError, AllocFailed, Global};
@@ -42,8 +42,8 @@ impl<T: Drop> From<AllocFailed<T>> for ReadStop {
 }
 
 /// The tree that a text spells, or why it spells none: a refusal of its lexemes, its layout or its syntax,
-/// the limit on lexemes or on nesting, a chain or section of the prelude or of its program that has no tree,
-/// or that it is not of the form that is built.
+/// the limit on lexemes or on nesting, a chain or section of the prelude or of its program that has no tree, a
+/// tree that is too deep, or that it is not of the form that is built.
 pub fn read(alloc: Global, text: &[u8]) -> Result<Exp, Stop>
     requires { length text.now ≤ 1048576 }
     ensures { ReadsText text.now result }
@@ -86,15 +86,14 @@ fn parse_and_read(alloc: Global, laid: &[Token], end: At) -> Result<Exp, Stop>
     }
 }
 
-// Whether each chain and section of the prelude and of a program has a tree.
+// Whether each chain and section of the prelude and of a program has a tree, and none is too deep.
 fn check_whole(alloc: Global, whole: &Tree) -> Result<(), Stop>
     ensures { ChecksWhole whole.now result }
 {
     let prelude = prelude_tree(alloc)?;
-    match check_chains(alloc, &prelude, whole) {
+    match check_trees(alloc, &prelude, whole) {
         Ok(()) => Ok(()),
-        Err(ChainsStop::Fixity(at)) => Err(refused(Kind::Fixity, at)),
-        Err(ChainsStop::Want) => Err(Stop::Want),
+        Err(stop) => Err(trees_stop(stop)),
     }
 }
 
@@ -153,5 +152,15 @@ fn parser_stop(stop: ParseStop) -> Stop
         ParseStop::Syntax(at) => refused(Kind::Syntax, at),
         ParseStop::Nesting(at) => Stop::Limit(Limit::Nesting(Which::Program, at)),
         ParseStop::Want => Stop::Want,
+    }
+}
+
+fn trees_stop(stop: TreesStop) -> Stop
+    ensures { result ≡ trees_stop stop }
+{
+    match stop {
+        TreesStop::Fixity(at) => refused(Kind::Fixity, at),
+        TreesStop::Depth(at) => Stop::Limit(Limit::Depth(at)),
+        TreesStop::Want => Stop::Want,
     }
 }

@@ -2,30 +2,39 @@
 
 use super::trees::laid;
 use hdc_base::At;
-use hdc_names::{ChainsStop, check_chains};
+use hdc_names::{TreesStop, check_trees};
 use hdc_parse::parse;
 use hdc_top::prelude_tree;
 use hdc_tree::Tree;
 use std::alloc::{AllocError, Global};
 use std::test::Fail;
 
-fn prelude(alloc: Global) -> Result<Tree, Fail> {
+pub(super) fn prelude(alloc: Global) -> Result<Tree, Fail> {
     match prelude_tree(alloc) {
         Ok(tree) => Ok(tree),
         Err(_want) => Err(Fail::from(AllocError)),
     }
 }
 
-// Where the first chain or section stands that has no tree, behind the prelude.
-fn fault(alloc: Global, prelude: &Tree, text: &str) -> Result<Option<At>, Fail> {
+// What the check of trees answers of a text, behind the prelude.
+pub(super) fn answer(
+    alloc: Global,
+    prelude: &Tree,
+    text: &str,
+) -> Result<Result<(), TreesStop>, Fail> {
     let (tokens, end) = laid(alloc, text.as_bytes())?;
     let Ok(tree) = parse(alloc, tokens.as_slice(), end) else {
         return Err(Fail::from(AllocError));
     };
-    match check_chains(alloc, prelude, &tree) {
+    Ok(check_trees(alloc, prelude, &tree))
+}
+
+// Where the first chain or section stands that has no tree, behind the prelude.
+fn fault(alloc: Global, prelude: &Tree, text: &str) -> Result<Option<At>, Fail> {
+    match answer(alloc, prelude, text)? {
         Ok(()) => Ok(None),
-        Err(ChainsStop::Fixity(at)) => Ok(Some(at)),
-        Err(ChainsStop::Want) => Err(Fail::from(AllocError)),
+        Err(TreesStop::Fixity(at)) => Ok(Some(at)),
+        Err(TreesStop::Depth(_)) | Err(TreesStop::Want) => Err(Fail::from(AllocError)),
     }
 }
 
@@ -148,7 +157,7 @@ const SCOPED: [(&str, u32, u32); 29] = [
     ("f x = a == b == c where y = a . b !! c", 1, 14),
     ("f x\n  | a == b == c = x\n  | x = a . b !! c", 2, 12),
     (
-        "f = case x of { y | z -> a . b !! c where u = a == b == c }",
+        "f = case x of { y | z -> a . b !! c where { u = a == b == c } }",
         1,
         32,
     ),

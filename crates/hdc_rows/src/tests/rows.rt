@@ -233,16 +233,25 @@ fn other_programs_are_not_built(rt: HostRuntime) -> Result<(), Fail> {
     Ok(())
 }
 
-#[test]
-fn a_chain_may_be_long(rt: HostRuntime) -> Result<(), Fail> {
-    let mut text = Vec::from_slice(rt.alloc(), b"main = ")?;
-    for _ in 0..1024 {
+fn long_chain(alloc: Global, count: usize) -> Result<Vec<u8>, AllocError> {
+    let mut text = Vec::from_slice(alloc, b"main = ")?;
+    for _ in 0..count {
         text.extend_from_slice(b"1 : ")?;
     }
     text.extend_from_slice(b"[]")?;
-    let left = left(rt.alloc(), text.as_slice())?;
-    assert_eq!(rt; left.status, 1);
-    assert_eq!(rt; left.output.as_slice(), NOT_YET.as_bytes());
+    Ok(text)
+}
+
+#[test]
+fn a_tree_is_1024_deep(rt: HostRuntime) -> Result<(), Fail> {
+    let text = long_chain(rt.alloc(), 1023)?;
+    let shallow = left(rt.alloc(), text.as_slice())?;
+    assert_eq!(rt; shallow.status, 1);
+    assert_eq!(rt; shallow.output.as_slice(), NOT_YET.as_bytes());
+    let text = long_chain(rt.alloc(), 1024)?;
+    let deep = left(rt.alloc(), text.as_slice())?;
+    assert_eq!(rt; deep.status, 8);
+    assert_eq!(rt; deep.output.as_slice(), b"limit depth at 1:4100\n".as_slice());
     Ok(())
 }
 
