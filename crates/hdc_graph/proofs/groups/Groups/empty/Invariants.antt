@@ -1,0 +1,5 @@
+use Rattle.hdc_graph.specs.Lists.{AreEmpty}
+use Rattle.hdc_graph.proofs.groups.Groups.empty.Given as goal
+
+abbrev pub invariant-loop : goal.invariant-loop
+invariant-loop l = AreEmpty l.counter l.groups
