@@ -211,7 +211,7 @@ module _ (trees : Bool → List NextOperand → Tree) where
     in_expression scope d (chain ls s a) =
         chain_site scope (chain ls s a)
         ∷ (joining_nodes (chain ls s a) (first_of_expression (chain ls s a)) d (tree_in scope (chain ls s a))
-          ++ (in_links scope (operand_depths d (tree_in scope (chain ls s a))) 0 ls ++ in_operand scope (depth_at (operand_depths d (tree_in scope (chain ls s a))) (count_links ls)) a))
+        ++ (in_links scope (operand_depths d (tree_in scope (chain ls s a))) 0 ls ++ in_operand scope (depth_at (operand_depths d (tree_in scope (chain ls s a))) (count_links ls)) a))
 
     -- the operands from this number on
     pub in_links : Scope → List ℕ → ℕ → Links → List Site

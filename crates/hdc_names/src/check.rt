@@ -71,7 +71,11 @@ fn check_program(alloc: Global, program: &Tree) -> Result<Found, AllocError>
 }
 
 // What is found in a tree in a scope.
-fn check_tree<'t>(alloc: Global, scope: Scope<'t, Fixity>, tree: &'t Tree) -> Result<Found, AllocError>
+fn check_tree<'t>(
+    alloc: Global,
+    scope: Scope<'t, Fixity>,
+    tree: &'t Tree,
+) -> Result<Found, AllocError>
     ensures { IfOk result (λ found. found ≡ (model.walk_tops (tops_of tree.now) (model.at_first scope.entry)).found) }
 {
     let mut walk = Walk {

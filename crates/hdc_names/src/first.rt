@@ -7,11 +7,11 @@ ghost use Rattle.hdc_names.specs.TypeMirror as types;
 
 use hdc_base::At;
 use hdc_tree::{
-    Aexp, Apat, Apply, Atype, Btype, Expression, LeftPat, Link, ListExp, Op, Operand, Pat, Sign, Var,
-    VarOp,
+    Aexp, Apat, Apply, Atype, Btype, Expression, LeftPat, Link, ListExp, Op, Operand, Pat, Sign,
+    Var, VarOp,
 };
 
-pub(crate) fn first_of_var(var: &Var) -> At
+fn first_of_var(var: &Var) -> At
     ensures { result ≡ spec.first_of_var var.now }
 {
     match var {
@@ -20,6 +20,7 @@ pub(crate) fn first_of_var(var: &Var) -> At
     }
 }
 
+/// The first token of an operator: its backquote, where it has one.
 pub(crate) fn first_of_op(op: &Op) -> At
     ensures { result ≡ spec.first_of_op op.now }
 {
@@ -40,7 +41,7 @@ fn first_of_var_op(op: &VarOp) -> At
 }
 
 #[tactic(auto, using(crate::proofs::PatternMirror::mirrored_patterns))]
-pub(crate) fn first_of_apat(part: &Apat) -> At
+fn first_of_apat(part: &Apat) -> At
     ensures { result ≡ spec.first_of_pattern (mirror.apat_of part.now) }
 {
     match part {
@@ -57,6 +58,7 @@ pub(crate) fn first_of_apat(part: &Apat) -> At
     }
 }
 
+/// The first token of a pattern without `:`.
 #[tactic(auto, using(crate::proofs::PatternMirror::mirrored_patterns))]
 pub(crate) fn first_of_left_pat(part: &LeftPat) -> At
     ensures { result ≡ spec.first_of_pattern (mirror.left_pat_of part.now) }
@@ -68,6 +70,7 @@ pub(crate) fn first_of_left_pat(part: &LeftPat) -> At
     }
 }
 
+/// The first token of a pattern.
 #[tactic(auto, using(crate::proofs::PatternMirror::mirrored_patterns))]
 pub(crate) fn first_of_pat(part: &Pat) -> At
     ensures { result ≡ spec.first_of_pattern (mirror.pat_of part.now) }
@@ -89,6 +92,7 @@ fn first_of_atype(part: &Atype) -> At
     }
 }
 
+/// The first token of a type without arrows.
 #[tactic(auto, using(crate::proofs::TypeMirror::mirrored_types))]
 pub(crate) fn first_of_btype(part: &Btype) -> At
     ensures { result ≡ spec.first_of_type (types.btype_of part.now) }
@@ -99,6 +103,7 @@ pub(crate) fn first_of_btype(part: &Btype) -> At
     }
 }
 
+/// The first token of an operand or argument.
 #[tactic(auto, using(crate::proofs::ExpressionMirror::mirrored_expressions))]
 pub(crate) fn first_of_aexp(part: &Aexp) -> At
     ensures { result ≡ spec.first_of_operand (mirror.aexp_of part.now) }

@@ -1,10 +1,10 @@
 //! Names and what they stand for.
 //!
-//! So far: the operator trees of programs. `check_chains` answers whether each chain and section of a prelude
-//! and a program has a tree, or the first place where one has none (`specs/Trees.antt`). Which tree a chain
-//! stands for is said in `specs/OperatorTrees.antt`, which chains and sections a program has in
-//! `specs/Sites.antt`, and how its operators bind in `specs/Fixities.antt`. Definitions speak of programs
-//! without the memory that holds them (`specs/Written.antt`, `specs/Mirror.antt`).
+//! So far: the operator trees of programs. `check_trees` answers whether each chain and section of a prelude
+//! and a program has a tree, and none of its trees is too deep; or the first place where that fails
+//! (`specs/Trees.antt`). Which tree a chain stands for is said in `specs/OperatorTrees.antt`, which chains,
+//! sections and nodes a program has in `specs/Sites.antt`, and how its operators bind in `specs/Fixities.antt`.
+//! Definitions speak of programs without the memory that holds them (`specs/Written.antt`, `specs/Mirror.antt`).
 //!
 //! `steps` answers how the tree of one chain is built, or the first operand up to which the chain has none
 //! (`specs/Chain.antt`); `one_tree` says that a chain has at most one, and `no_tree_behind` that it has none

@@ -8,7 +8,7 @@ ghost use Rattle.hdc_names.specs.Walk as spec;
 use crate::binders::{bind_block, bind_head, bind_params, bind_pat, bind_where};
 use crate::chain::{ChainStop, steps};
 use crate::depth::{deeper, depth_at, function_depth, head_depth};
-use crate::first::{first_of_aexp, first_of_exp, first_of_op, first_of_pat, first_of_var};
+use crate::first::{first_of_aexp, first_of_exp, first_of_op, first_of_pat};
 use crate::fixity::Fixity;
 use crate::found::Found;
 use crate::joining::join;
@@ -39,7 +39,12 @@ impl<'t> Walk<'t> {
     }
 
     // The chain of an expression of this depth, and the nodes that join its operands; the depths of these.
-    fn note_chain(&mut self, alloc: Global, depth: u64, exp: &Expression) -> Result<Vec<u64>, AllocError>
+    fn note_chain(
+        &mut self,
+        alloc: Global,
+        depth: u64,
+        exp: &Expression,
+    ) -> Result<Vec<u64>, AllocError>
         ensures noted { OnOk result (self.new ≡ spec.joined_in self.old (spec.chain_joined depth (mirror.exp_of exp.now) self.old)) }
         ensures depths { IfOk result (λ depths. depths.items ≡ (spec.chain_joined depth (mirror.exp_of exp.now) self.old).depths) }
     {
@@ -93,7 +98,12 @@ impl<'t> Walk<'t> {
 
 #[cycle(walk_expressions)]
 #[tactic(auto, using(crate::proofs::ExpressionMirror::mirrored_expressions))]
-fn walk_exp<'t>(alloc: Global, walk: &mut Walk<'t>, depth: u64, part: &'t Expression) -> Result<(), AllocError>
+fn walk_exp<'t>(
+    alloc: Global,
+    walk: &mut Walk<'t>,
+    depth: u64,
+    part: &'t Expression,
+) -> Result<(), AllocError>
     ensures { OnOk result (walk.new ≡ spec.walk_expression depth (mirror.exp_of part.now) walk.old) }
 {
     let depths = walk.note_chain(alloc, depth, part)?;
@@ -121,7 +131,12 @@ fn walk_links<'t>(
 
 #[cycle(walk_expressions)]
 #[tactic(auto, using(crate::proofs::ExpressionMirror::mirrored_expressions))]
-fn walk_apply<'t>(alloc: Global, walk: &mut Walk<'t>, depth: u64, part: &'t Apply) -> Result<(), AllocError>
+fn walk_apply<'t>(
+    alloc: Global,
+    walk: &mut Walk<'t>,
+    depth: u64,
+    part: &'t Apply,
+) -> Result<(), AllocError>
     ensures { OnOk result (walk.new ≡ spec.walk_operand depth (mirror.apply_of part.now) walk.old) }
 {
     let args = part.args.as_slice();
@@ -132,7 +147,12 @@ fn walk_apply<'t>(alloc: Global, walk: &mut Walk<'t>, depth: u64, part: &'t Appl
 
 #[cycle(walk_expressions)]
 #[tactic(auto, using(crate::proofs::ExpressionMirror::mirrored_expressions))]
-fn walk_aexps<'t>(alloc: Global, walk: &mut Walk<'t>, depth: u64, parts: &'t [Aexp]) -> Result<(), AllocError>
+fn walk_aexps<'t>(
+    alloc: Global,
+    walk: &mut Walk<'t>,
+    depth: u64,
+    parts: &'t [Aexp],
+) -> Result<(), AllocError>
     ensures { OnOk result (walk.new ≡ spec.walk_operands depth (mirror.each_operand mirror.aexp_of parts.now) walk.old) }
 {
     for index in 0..parts.len() {
@@ -144,7 +164,12 @@ fn walk_aexps<'t>(alloc: Global, walk: &mut Walk<'t>, depth: u64, parts: &'t [Ae
 
 #[cycle(walk_expressions)]
 #[tactic(auto, using(crate::proofs::ExpressionMirror::mirrored_expressions))]
-fn walk_operand<'t>(alloc: Global, walk: &mut Walk<'t>, depth: u64, part: &'t Operand) -> Result<(), AllocError>
+fn walk_operand<'t>(
+    alloc: Global,
+    walk: &mut Walk<'t>,
+    depth: u64,
+    part: &'t Operand,
+) -> Result<(), AllocError>
     ensures { OnOk result (walk.new ≡ spec.walk_operand depth (mirror.operand_of part.now) walk.old) }
 {
     match part {
@@ -185,32 +210,22 @@ fn walk_operand<'t>(alloc: Global, walk: &mut Walk<'t>, depth: u64, part: &'t Op
 
 #[cycle(walk_expressions)]
 #[tactic(auto, using(crate::proofs::ExpressionMirror::mirrored_expressions))]
-fn walk_aexp<'t>(alloc: Global, walk: &mut Walk<'t>, depth: u64, part: &'t Aexp) -> Result<(), AllocError>
+fn walk_aexp<'t>(
+    alloc: Global,
+    walk: &mut Walk<'t>,
+    depth: u64,
+    part: &'t Aexp,
+) -> Result<(), AllocError>
     ensures { OnOk result (walk.new ≡ spec.walk_operand depth (mirror.aexp_of part.now) walk.old) }
 {
     match part {
-        Aexp::Var(var) => {
-            walk.note_node(depth, first_of_var(var));
-            Ok(())
-        }
-        Aexp::Con(name) => {
-            walk.note_node(depth, name.at);
-            Ok(())
-        }
-        Aexp::Literal(at, _literal) => {
-            walk.note_node(depth, *at);
-            Ok(())
-        }
-        Aexp::Unit(open_at, _close_at) => {
-            walk.note_node(depth, *open_at);
-            Ok(())
-        }
-        Aexp::Nil(open_at, _close_at) => {
-            walk.note_node(depth, *open_at);
-            Ok(())
-        }
-        Aexp::Cons(open_at, _at, _close_at) => {
-            walk.note_node(depth, *open_at);
+        Aexp::Var(_)
+        | Aexp::Con(_)
+        | Aexp::Literal(_, _)
+        | Aexp::Unit(_, _)
+        | Aexp::Nil(_, _)
+        | Aexp::Cons(_, _, _) => {
+            walk.note_node(depth, first_of_aexp(part));
             Ok(())
         }
         Aexp::Paren(_open_at, inner, _close_at) => walk_exp(alloc, walk, depth, inner.get()),
@@ -294,7 +309,12 @@ fn walk_comma_exps<'t>(
 // A qualifier of this depth, whose names stay in scope.
 #[cycle(walk_expressions)]
 #[tactic(auto, using(crate::proofs::ExpressionMirror::mirrored_expressions))]
-fn walk_qual<'t>(alloc: Global, walk: &mut Walk<'t>, depth: u64, part: &'t Qual) -> Result<(), AllocError>
+fn walk_qual<'t>(
+    alloc: Global,
+    walk: &mut Walk<'t>,
+    depth: u64,
+    part: &'t Qual,
+) -> Result<(), AllocError>
     ensures { OnOk result (walk.new ≡ spec.walk_qualifier depth (mirror.qual_of part.now) walk.old) }
 {
     match part {
@@ -336,7 +356,12 @@ fn walk_comma_quals<'t>(
 
 #[cycle(walk_expressions)]
 #[tactic(auto, using(crate::proofs::ExpressionMirror::mirrored_expressions))]
-fn walk_alts<'t>(alloc: Global, walk: &mut Walk<'t>, depth: u64, part: &'t Alts) -> Result<(), AllocError>
+fn walk_alts<'t>(
+    alloc: Global,
+    walk: &mut Walk<'t>,
+    depth: u64,
+    part: &'t Alts,
+) -> Result<(), AllocError>
     ensures { OnOk result (walk.new ≡ spec.walk_alternatives depth (mirror.alts_of part.now) walk.old) }
 {
     walk_alt(alloc, walk, depth, part.first.get())?;
@@ -361,7 +386,12 @@ fn walk_next_alts<'t>(
 
 #[cycle(walk_expressions)]
 #[tactic(auto, using(crate::proofs::ExpressionMirror::mirrored_expressions))]
-fn walk_alt<'t>(alloc: Global, walk: &mut Walk<'t>, depth: u64, part: &'t Alt) -> Result<(), AllocError>
+fn walk_alt<'t>(
+    alloc: Global,
+    walk: &mut Walk<'t>,
+    depth: u64,
+    part: &'t Alt,
+) -> Result<(), AllocError>
     ensures { OnOk result (walk.new ≡ spec.walk_alternative depth (mirror.alt_of part.now) walk.old) }
 {
     match part {
