@@ -61,7 +61,7 @@ impl State {
     }
 }
 
-// For each node, the number of its component.
+/// For each node, the number of its component.
 pub(crate) fn number_nodes(alloc: Global, graph: &Graph) -> Result<Items<usize>, AllocError>
     requires { length graph.now ≤ 2 ^ 32 }
     ensures { IfOk result (λ numbers. IsNumbered graph.now numbers) }
