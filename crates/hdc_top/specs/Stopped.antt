@@ -1,5 +1,5 @@
 -- A text as a program, and why it is none.
-use Rattle.std.specs.Prelude.{◌≡◌, ◌⊎◌, ℕ, ◌<◌, List, length, Ok, Err}
+use Rattle.std.specs.Prelude.{◌≡◌, ◌⊎◌, ℕ, ◌<◌, List, length, Ok, Err, Result}
 use Rattle.hdc_base.specs.declared.place.At.{At}
 use Rattle.hdc_base.specs.declared.token.Token.{Token}
 use Rattle.hdc_base.specs.declared.refusal.Kind.{Kind}
