@@ -1,5 +1,5 @@
 -- The steps of a chain's tree, from the last one to the first, meet the nodes of the tree.
-use Rattle.std.proofs.Common.{◌≡◌, ℕ, suc, Bool, List, [], ◌∷◌, ◌++◌, Result, Ok, Err, inl, inr, refl, sym, ap, ◌∙◌, append_assoc, append-nil, subst}
+use Rattle.std.proofs.Common.{◌≡◌, ℕ, suc, Bool, List, [], ◌∷◌, ◌++◌, Result, Ok, Err, inl, inr, refl, sym, ap, ◌∙◌, append_assoc, append-nil}
 use Rattle.hdc_base.specs.declared.place.At.{At}
 use Rattle.hdc_names.specs.declared.chain.NextOperand.{NextOperand}
 use Rattle.hdc_names.specs.declared.chain.Step.{Step}
@@ -11,7 +11,7 @@ use Rattle.hdc_names.specs.OperatorTrees.{leaf, binary, negated}
 use Rattle.hdc_names.specs.Chain.{Tree, steps_of, read}
 use Rattle.hdc_names.specs.Written.{Expression}
 use Rattle.hdc_names.specs.Firsts.{first_of_expression, operand_at, start_at, operator_before}
-use Rattle.hdc_names.specs.Sites.{Site, node, operand_depths, joining_nodes}
+use Rattle.hdc_names.specs.Sites.{node, operand_depths, joining_nodes}
 use Rattle.hdc_names.specs.Trees.{found_with, all_found, IsGiven, AreTrees}
 use Rattle.hdc_names.specs.Walk.{turn, turned, started, joining}
 use Rattle.hdc_names.proofs.Noting.{found_joined}

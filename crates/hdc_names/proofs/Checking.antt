@@ -1,5 +1,5 @@
 -- What is said of a prelude and a program, by what was found in each.
-use Rattle.std.proofs.Common.{◌≡◌, inl, inr, List, Option, Some, None, Result, Ok, Err, refl, sym, ap, ◌∙◌, subst}
+use Rattle.std.proofs.Common.{◌≡◌, inl, inr, List, Option, Some, None, Result, Err, sym, ap, ◌∙◌, subst}
 use Rattle.std.specs.Prelude.{IfOk}
 use Rattle.std.specs.declared.alloc.AllocError.{AllocError}
 use Rattle.hdc_base.specs.declared.place.At.{At}
@@ -9,7 +9,7 @@ use Rattle.hdc_names.specs.declared.check.TreesStop.TheVariants as stop
 use Rattle.hdc_names.specs.declared.found.Found.{Found}
 use Rattle.hdc_names.specs.Fixities.{Scope, standard, program_scope}
 use Rattle.hdc_names.specs.Sites.{Site, prelude_sites, program_sites}
-use Rattle.hdc_names.specs.Trees.{EachHasTree, NoneTooDeep, SitesAnswer, IsChecked, fault_of, deep_of, all_noted, all_found, nothing_found, by_depth, by_fault, judged}
+use Rattle.hdc_names.specs.Trees.{EachHasTree, SitesAnswer, IsChecked, fault_of, deep_of, all_noted, all_found, nothing_found, by_depth, by_fault, judged}
 use Rattle.hdc_names.specs.Walk.{at_first, walk_tops}
 use Rattle.hdc_names.proofs.Faults.{first_found, none_found, first_deep, none_deep}
 use Rattle.hdc_names.proofs.Noting.{fault_found, deep_found}

@@ -5,7 +5,6 @@ use Rattle.hdc_tree.specs.declared.pattern.Pat.{Pat}
 use Rattle.hdc_tree.specs.declared.expression.Aexp.{Aexp-F, fold-roll-Aexp}
 use Rattle.hdc_tree.specs.declared.expression.Alt.{Alt-F, fold-roll-Alt}
 use Rattle.hdc_tree.specs.declared.expression.ListExp.{ListExp-F, fold-roll-ListExp}
-use Rattle.hdc_tree.specs.declared.expression.Operand.{Operand}
 use Rattle.hdc_tree.specs.declared.expression.Qual.{Qual}
 use Rattle.hdc_tree.specs.declared.expression.Rhs.{Rhs-F, fold-roll-Rhs}
 use Rattle.hdc_tree.specs.declared.expression.Where.{Where}

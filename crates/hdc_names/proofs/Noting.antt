@@ -1,6 +1,5 @@
 -- Sites that are noted one after the other.
-use Rattle.std.proofs.Common.{◌≡◌, List, [], ◌∷◌, ◌++◌, Option, refl}
-use Rattle.hdc_base.specs.declared.place.At.{At}
+use Rattle.std.proofs.Common.{◌≡◌, List, [], ◌∷◌, ◌++◌, refl}
 use Rattle.hdc_names.specs.declared.found.Found.{Found}
 use Rattle.hdc_names.specs.Sites.{Site}
 use Rattle.hdc_names.specs.Trees.{fault_of, deep_of, all_noted, found_with, all_found}

@@ -1,6 +1,5 @@
 -- The walk over a program looks at its sites, in scope.
-use Rattle.std.proofs.Common.{◌≡◌, ℕ, suc, ◌+◌, List, [], ◌∷◌, ◌++◌, length, Option, None, refl, sym, ap, ◌∙◌}
-use Rattle.hdc_base.specs.declared.place.At.{At}
+use Rattle.std.proofs.Common.{◌≡◌, ℕ, suc, ◌+◌, List, [], ◌∷◌, ◌++◌, length, refl, sym, ap, ◌∙◌}
 use Rattle.hdc_tree.specs.declared.name.Name.{Name}
 use Rattle.hdc_tree.specs.declared.program.Top.{Top}
 use Rattle.hdc_tree.specs.declared.program.Top.TheVariants as top
@@ -10,9 +9,8 @@ use Rattle.hdc_names.specs.declared.walk.Walk.{Walk}
 use Rattle.hdc_names.specs.Written.{variables, all_variables, Expression, chain, Links, no_link, link, Operand, variable, constructor, literal, unit, nil, cons, in_parentheses, tuple, list, range, comprehension, left_section, right_section, applied, lambda, let_in, if_else, case_of, Operands, no_operand, operand, Expressions, no_expression, expression, Qualifier, generator, condition, let_qualifier, Qualifiers, no_qualifier, qualifier, Alternative, blank, alternative, Alternatives, no_alternative, next_alternative, RightSide, plain, guarded, Guards, no_guard, guard, Declaration, empty, signature, equation, binding, Declarations, no_declaration, declaration, all_bound}
 use Rattle.hdc_names.specs.Mirror.{head_patterns, rhs_of}
 use Rattle.hdc_names.specs.Fixities.{Scope, locally}
-use Rattle.hdc_names.specs.TypeMirror.{type_exp_of}
-use Rattle.hdc_names.specs.Firsts.{first_of_var, first_of_op, first_of_pattern, first_of_operand, first_of_expression}
-use Rattle.hdc_names.specs.Sites.{Site, node, chain_site, left_site, right_site, is_minus, sign_of, rest_in, pattern_nodes, each_pattern_nodes, type_nodes, applied_nodes, data_nodes, joining_nodes, operand_depths, depth_at, count_links, count_operands, count_qualifiers, behind, all_behind, tree_in, in_expression, in_links, in_operand, in_operands, in_expressions, in_qualifier, in_qualifiers, in_alternative, in_alternatives, in_right_side, in_guards, in_declaration, in_declarations, in_top, in_tops}
+use Rattle.hdc_names.specs.Firsts.{first_of_op, first_of_pattern, first_of_operand, first_of_expression}
+use Rattle.hdc_names.specs.Sites.{Site, node, chain_site, left_site, right_site, is_minus, sign_of, rest_in, pattern_nodes, each_pattern_nodes, applied_nodes, joining_nodes, operand_depths, depth_at, count_links, count_operands, count_qualifiers, behind, all_behind, tree_in, in_expression, in_links, in_operand, in_operands, in_expressions, in_qualifier, in_qualifiers, in_alternative, in_alternatives, in_right_side, in_guards, in_declaration, in_declarations, in_top, in_tops}
 use Rattle.hdc_names.specs.Trees.{found_with, all_found, nothing_found}
 use Rattle.hdc_names.specs.Walk.{at_first, note, note_all, bind, chain_joined, joined_in, left_at, walk_expression, walk_links, walk_operand, walk_operands, walk_expressions, walk_qualifier, walk_qualifiers, walk_alternative, walk_alternatives, walk_right_side, walk_guards, walk_declaration, walk_declarations, walk_top, walk_tops}
 use Rattle.hdc_names.proofs.Scoping.{locally_joined, left_bound}

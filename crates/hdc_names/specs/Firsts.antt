@@ -12,12 +12,12 @@ use Rattle.hdc_tree.specs.declared.name.VarOp.TheVariants as var_op
 use Rattle.hdc_names.specs.WrittenTypes.{WrittenType, type_constructor, type_variable, unit_type, type_in_parentheses, tuple_type, list_type, arrow_type}
 use Rattle.hdc_names.specs.Written.{Pattern, named, named_as, anything, built, literal_pattern, negative_pattern, unit_pattern, nil_pattern, pattern_in_parentheses, tuple_pattern, list_pattern, cons_pattern, Expression, chain, Links, no_link, link, Operand, variable, constructor, literal, unit, nil, cons, in_parentheses, tuple, list, range, comprehension, left_section, right_section, applied, lambda, let_in, if_else, case_of}
 
--- a name in parentheses begins with the first one
+-- a name in parentheses begins with the parenthesis
 abbrev pub first_of_var : Var → At
 first_of_var (var.Plain x) = x.at
 first_of_var (var.Operator a x b) = a
 
--- a name in backquotes begins with the first one
+-- a name in backquotes begins with the first backquote
 abbrev pub first_of_var_op : VarOp → At
 first_of_var_op (var_op.Symbol x) = x.at
 first_of_var_op (var_op.Quoted a x b) = a
@@ -97,10 +97,11 @@ start_at (chain ls s a) k = start_in ls s a k
 abbrev pub first_of_expression : Expression → At
 first_of_expression e = start_at e 0
 
--- the operator before an operand; before the first one stands none
+-- before the first operand stands no operator
 abbrev pub nowhere : At
 nowhere = record { line = 0; col = 0 }
 
+-- the operator behind an operand, and the one before it
 abbrev pub operator_behind : Links → ℕ → At
 operator_behind no_link k = nowhere
 operator_behind (link s a o ls) zero = first_of_op o

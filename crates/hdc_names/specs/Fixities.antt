@@ -86,7 +86,7 @@ abbrev pub all_declared : List Top → Scope
 all_declared [] = []
 all_declared (t ∷ ts) = declared t ++ all_declared ts
 
--- what a program defines binds as the program declares it, and as nothing else does
+-- what a program defines binds as the program declares it, and nothing else counts
 abbrev pub own : Scope → Top → Scope
 own declarations top.Empty = []
 own declarations (top.Data d) = []

@@ -1,7 +1,6 @@
 -- What the trees of a program are made of: its chains and sections, and the nodes of their trees with their depths.
-use Rattle.std.specs.Prelude.{ℕ, zero, suc, ◌+◌, Bool, true, false, List, [], ◌∷◌, ◌++◌, length, slice_get, Option, Some, None}
+use Rattle.std.specs.Prelude.{ℕ, suc, ◌+◌, Bool, true, false, List, [], ◌∷◌, ◌++◌, length, slice_get, Option, Some, None}
 use Rattle.hdc_base.specs.declared.place.At.{At}
-use Rattle.hdc_tree.specs.declared.name.Name.{Name}
 use Rattle.hdc_tree.specs.declared.name.Op.{Op}
 use Rattle.hdc_tree.specs.declared.name.Op.TheVariants as op
 use Rattle.hdc_tree.specs.declared.name.Sign.{Sign}
@@ -22,7 +21,8 @@ use Rattle.hdc_names.specs.Mirror.{op_name, head_patterns, rhs_of}
 use Rattle.hdc_names.specs.Firsts.{first_of_pattern, first_of_type, first_of_op, first_of_operand, first_of_expression, first_of_var, operand_at, start_at, operator_before}
 use Rattle.hdc_names.specs.Fixities.{Scope, fixity_in, locally, standard, program_scope}
 
--- a chain, which has to have a tree; one whose tree has to have this operator at its root, which stands at this place;
+-- a chain, which has to have a tree; one whose tree has to have the operator before the operand of this number at its root,
+-- which stands at this place;
 -- a node of a tree, with its depth and the place of its first token
 pub data Site : Type 0 where
   whole : Bool → List NextOperand → Site
@@ -153,7 +153,7 @@ or_zero (Some d) = d
 abbrev pub depth_at : List ℕ → ℕ → ℕ
 depth_at ds k = or_zero (slice_get ds k)
 
--- operators and signs with what they join, where the tree begins at this place
+-- what operators join, each operator's own name, and what signs stand before, where the tree begins at this place
 abbrev pub joining_nodes : Expression → At → ℕ → Tree → List Site
 joining_nodes e at d (leaf k) = []
 joining_nodes e at d (binary l o r) = node d at ∷ (node (suc d) (operator_before e o.number) ∷ (joining_nodes e (start_at e o.number) (suc d) r ++ joining_nodes e at (suc d) l))
@@ -163,11 +163,11 @@ abbrev pub count_links : Links → ℕ
 count_links no_link = 0
 count_links (link s a o ls) = suc (count_links ls)
 
--- a function and its first arguments, from all of them down to one
 abbrev pub count_operands : Operands → ℕ
 count_operands no_operand = 0
 count_operands (operand a as') = suc (count_operands as')
 
+-- a function with its arguments, and with all but the last ones, down to the first alone
 abbrev pub applied_nodes : ℕ → At → Operands → List Site
 applied_nodes d at no_operand = []
 applied_nodes d at (operand a as') = node d at ∷ applied_nodes (suc d) at as'
@@ -205,7 +205,8 @@ module _ (trees : Bool → List NextOperand → Tree) where
   abbrev pub tree_in : Scope → Expression → Tree
   tree_in scope e = trees (is_minus (sign_of e)) (rest_in scope e)
 
-  -- right sides, patterns and types begin at depth 1; the head of a comprehension stands behind its qualifiers
+  -- right sides of bindings, patterns and types begin at depth 1; the head of a comprehension is in the scope of its qualifiers,
+  -- and below them
   abbrev mutual
     pub in_expression : Scope → ℕ → Expression → List Site
     in_expression scope d (chain ls s a) =
@@ -247,7 +248,7 @@ module _ (trees : Bool → List NextOperand → Tree) where
     in_expressions scope d no_expression = []
     in_expressions scope d (expression e es) = in_expression scope d e ++ in_expressions scope d es
 
-    -- a qualifier counts as a node, and what it holds has its depth
+    -- a qualifier counts as a node, and its expression has its depth
     pub in_qualifier : Scope → ℕ → Qualifier → List Site
     in_qualifier scope d (generator p e) = node d (first_of_pattern p) ∷ (pattern_nodes 1 p ++ in_expression scope d e)
     in_qualifier scope d (condition e) = node d (first_of_expression e) ∷ in_expression scope d e
@@ -296,7 +297,7 @@ module _ (trees : Bool → List NextOperand → Tree) where
   in_tops scope [] = []
   in_tops scope (t ∷ ts) = in_top scope t ++ in_tops scope ts
 
-  -- those of the prelude, whose operators bind as they do by themselves, and those of a program
+  -- those of the prelude, whose operators bind as the table says, and those of a program
   abbrev pub prelude_sites : List Top → List Site
   prelude_sites ts = in_tops standard ts
 

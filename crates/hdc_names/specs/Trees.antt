@@ -58,7 +58,7 @@ pub record FirstFault (sites : List Site) (at : At) : Type 0 where
   pub at_fault : IsAtFault site at
   pub first : (s : Site) → IsOneOf s sites → (p : At) → IsAtFault s p → IsBefore p at → ⊥
 
--- the depth of a node that is too deep
+-- the depth of a node that is too deep; each deeper one stands below one of this depth
 abbrev pub too_deep : ℕ
 too_deep = 1025
 

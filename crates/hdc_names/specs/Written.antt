@@ -1,4 +1,4 @@
--- Programs as they are written, without the memory that holds them, and without the places of what only spells a
+-- Programs as they are written, without the memory that holds them, and without most places of what only spells a
 -- production.
 use Rattle.std.specs.Prelude.{ℕ, List, [], ◌∷◌, ◌++◌}
 use Rattle.hdc_base.specs.declared.place.At.{At}

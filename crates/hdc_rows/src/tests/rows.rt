@@ -251,7 +251,10 @@ fn a_tree_is_1024_deep(rt: HostRuntime) -> Result<(), Fail> {
     let text = long_chain(rt.alloc(), 1024)?;
     let deep = left(rt.alloc(), text.as_slice())?;
     assert_eq!(rt; deep.status, 8);
-    assert_eq!(rt; deep.output.as_slice(), b"limit depth at 1:4100\n".as_slice());
+    assert_eq!(rt;
+        deep.output.as_slice(),
+        b"limit depth at 1:4100\n".as_slice()
+    );
     Ok(())
 }
 

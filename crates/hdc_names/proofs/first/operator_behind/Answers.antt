@@ -1,5 +1,5 @@
 use Rattle.std.proofs.Common.{get_or, sym, ap, ◌∙◌}
-use Rattle.hdc_names.specs.Mirror.{Linked, link_of}
+use Rattle.hdc_names.specs.Mirror.{Linked}
 use Rattle.hdc_names.specs.Firsts.{first_of_op}
 use Rattle.hdc_names.proofs.ExpressionMirror.{link_parts}
 use Rattle.hdc_names.proofs.Numbered.{operator_some, operator_none}

@@ -1,6 +1,6 @@
 use Rattle.std.proofs.Common.{get_or, sym, ap, ◌∙◌}
 use Rattle.hdc_tree.specs.declared.expression.Link.{Link, out-Link}
-use Rattle.hdc_names.specs.Mirror.{Linked, apply_of, link_of, operand_of}
+use Rattle.hdc_names.specs.Mirror.{Linked, apply_of, operand_of}
 use Rattle.hdc_names.specs.Firsts.{first_of_operand, behind_sign}
 use Rattle.hdc_names.proofs.ExpressionMirror.{link_parts}
 use Rattle.hdc_names.proofs.Numbered.{start_some, start_none}
