@@ -20,7 +20,7 @@ Scope = List (Binding Fixity)
 abbrev pub binds : ℕ → Associativity → Fixity
 binds p a = record { precedence = p; associativity = a }
 
--- an operator without a declaration, and so one that is bound locally, is infixl 9
+-- an operator without a declaration is infixl 9, and so is one that is bound locally, whatever is declared
 abbrev pub undeclared : Fixity
 undeclared = binds 9 side.Left
 
