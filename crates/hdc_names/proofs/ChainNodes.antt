@@ -9,8 +9,8 @@ use Rattle.hdc_names.specs.declared.joining.Joining.{Joining}
 use Rattle.hdc_names.specs.declared.joining.Pending.{Pending}
 use Rattle.hdc_names.specs.OperatorTrees.{leaf, binary, negated}
 use Rattle.hdc_names.specs.Chain.{Tree, steps_of, read}
-use Rattle.hdc_names.specs.Written.{Expression}
-use Rattle.hdc_names.specs.Firsts.{first_of_expression, operand_at, start_at, operator_before}
+use Rattle.hdc_written.specs.Written.{Expression}
+use Rattle.hdc_written.specs.Firsts.{first_of_expression, operand_at, start_at, operator_before}
 use Rattle.hdc_names.specs.Sites.{node, operand_depths, joining_nodes}
 use Rattle.hdc_names.specs.Trees.{found_with, all_found, IsGiven, AreTrees}
 use Rattle.hdc_names.specs.Walk.{turn, turned, started, joining}

@@ -1,12 +1,5 @@
 pub mod Grouping
 pub mod Building
-pub mod Binding
-mod Linked
-pub mod PatternMirror
-pub mod TypeMirror
-pub mod ExpressionMirror
-pub mod Numbered
-pub mod Scoping
 pub mod Noting
 pub mod Loops
 pub mod Faults

@@ -6,38 +6,16 @@ use Rattle.hdc_base.specs.declared.place.At.{At}
 use Rattle.hdc_tree.specs.declared.pattern.ConsPat.{ConsPat}
 use Rattle.hdc_tree.specs.declared.type_tree.ArrowType.{ArrowType}
 use Rattle.hdc_names.specs.declared.found.Found.{Found}
-use Rattle.hdc_names.specs.WrittenTypes.{WrittenType}
-use Rattle.hdc_names.specs.TypeMirror.{each_type, arrow_type_of}
-use Rattle.hdc_names.specs.Firsts.{first_of_pattern, first_of_type}
+use Rattle.hdc_written.specs.WrittenTypes.{WrittenType}
+use Rattle.hdc_written.specs.TypeMirror.{each_type, arrow_type_of}
+use Rattle.hdc_written.specs.Firsts.{first_of_pattern, first_of_type}
 use Rattle.hdc_names.specs.Sites.{Site, joined, below, follow, types_follow, pattern_nodes, cons_nodes, type_nodes, arrow_nodes}
 use Rattle.hdc_names.specs.Trees.{all_found}
-use Rattle.hdc_names.specs.Written.{Pattern, variables, all_variables, Declaration, bound, all_bound}
-use Rattle.hdc_names.specs.Mirror.{each_pattern, each_declaration, cons_pat_of}
+use Rattle.hdc_written.specs.Written.{Pattern, variables, all_variables, Declaration, bound, all_bound}
+use Rattle.hdc_written.specs.Mirror.{each_pattern, each_declaration, cons_pat_of}
 use Rattle.hdc_names.specs.Fixities.{Scope, locally}
 use Rattle.hdc_names.proofs.Noting.{found_joined}
-use Rattle.hdc_names.proofs.Scoping.{locally_joined}
-
--- what is left of a list begins with the item of the turn
-pub stepped : {A : Type 0} (parts : List A) (i : ℕ) (x : A) → i < length parts → x ≡ get_or parts i x → drop i parts ≡ x ∷ drop (i + 1) parts
-stepped parts i x lt is = drop_more parts i x lt ∙ ap (λ y. y ∷ drop (i + 1) parts) (sym is)
-
--- the variables of one more pattern are bound
-pub next_pattern : {A : Type 0} (f : A → Pattern) (parts : List A) (i : ℕ) (x : A) (p : Pattern) (start now next : Scope) → locally (all_variables (each_pattern f parts)) start ≡ locally (all_variables (each_pattern f (drop i parts))) now → i < length parts → x ≡ get_or parts i x → f x ≡ p → next ≡ locally (variables p) now → locally (all_variables (each_pattern f parts)) start ≡ locally (all_variables (each_pattern f (drop (i + 1) parts))) next
-next_pattern f parts i x p start now next so_far lt is same e =
-    so_far
-    ∙ ap (λ z. locally (all_variables (each_pattern f z)) now) (stepped parts i x lt is)
-    ∙ locally_joined (variables (f x)) (all_variables (each_pattern f (drop (i + 1) parts))) now
-    ∙ ap (λ q. locally (all_variables (each_pattern f (drop (i + 1) parts))) (locally (variables q) now)) same
-    ∙ ap (locally (all_variables (each_pattern f (drop (i + 1) parts)))) (sym e)
-
--- what one more declaration binds is bound
-pub next_declaration : {A : Type 0} (f : A → Declaration) (parts : List A) (i : ℕ) (x : A) (d : Declaration) (start now next : Scope) → locally (all_bound (each_declaration f parts)) start ≡ locally (all_bound (each_declaration f (drop i parts))) now → i < length parts → x ≡ get_or parts i x → f x ≡ d → next ≡ locally (bound d) now → locally (all_bound (each_declaration f parts)) start ≡ locally (all_bound (each_declaration f (drop (i + 1) parts))) next
-next_declaration f parts i x d start now next so_far lt is same e =
-    so_far
-    ∙ ap (λ z. locally (all_bound (each_declaration f z)) now) (stepped parts i x lt is)
-    ∙ locally_joined (bound (f x)) (all_bound (each_declaration f (drop (i + 1) parts))) now
-    ∙ ap (λ q. locally (all_bound (each_declaration f (drop (i + 1) parts))) (locally (bound q) now)) same
-    ∙ ap (locally (all_bound (each_declaration f (drop (i + 1) parts)))) (sym e)
+use Rattle.hdc_written.proofs.Loops.{stepped}
 
 -- the sites of one more part are noted
 pub next_found : {A : Type 0} (g : List A → List Site) (h : A → List Site) (split : (x : A) (xs : List A) → g (x ∷ xs) ≡ h x ++ g xs) (parts : List A) (i : ℕ) (x : A) (ss : List Site) (start now next : Found) → all_found start (g parts) ≡ all_found now (g (drop i parts)) → i < length parts → x ≡ get_or parts i x → h x ≡ ss → next ≡ all_found now ss → all_found start (g parts) ≡ all_found next (g (drop (i + 1) parts))
@@ -48,10 +26,6 @@ next_found g h split parts i x ss start now next so_far lt is same e =
     ∙ found_joined now (h x) (g (drop (i + 1) parts))
     ∙ ap (λ z. all_found (all_found now z) (g (drop (i + 1) parts))) same
     ∙ ap (λ (f : Found). all_found f (g (drop (i + 1) parts))) (sym e)
-
--- a slice up to the end is the rest of a list
-pub rest_slice : {A : Type 0} (xs : List A) (k : ℕ) → take (length xs - k) (drop k xs) ≡ drop k xs
-rest_slice xs k = ap (λ n. take n (drop k xs)) (sym (length-drop k xs)) ∙ take-length (drop k xs)
 
 -- one more of the parts that are joined with what follows: its node, if it has one, and its own nodes
 three_found : (now n1 n2 : Found) (xs ys zs : List Site) → n1 ≡ all_found now xs → n2 ≡ all_found n1 ys → all_found now (xs ++ (ys ++ zs)) ≡ all_found n2 zs

@@ -4,12 +4,13 @@ use Rattle.std.specs.Prelude.{OnOk}
 use Rattle.hdc_tree.specs.declared.name.Sign.{Sign}
 use Rattle.hdc_tree.specs.declared.expression.Link.{Link}
 use Rattle.hdc_names.specs.declared.walk.Walk.{Walk}
-use Rattle.hdc_names.specs.Written as written
-use Rattle.hdc_names.specs.Written.{Expression, chain}
-use Rattle.hdc_names.specs.Mirror.{each_link, link_of}
-use Rattle.hdc_names.specs.Sites.{depth_at, count_links}
+use Rattle.hdc_written.specs.Written as written
+use Rattle.hdc_written.specs.Written.{Expression, chain}
+use Rattle.hdc_written.specs.Mirror.{each_link, link_of}
+use Rattle.hdc_names.specs.Sites.{depth_at}
+use Rattle.hdc_written.specs.Written.{count_links}
 use Rattle.hdc_names.specs.Walk.{chain_joined, joined_in, walk_expression, walk_links, walk_operand}
-use Rattle.hdc_names.proofs.Numbered.{count_links-each}
+use Rattle.hdc_written.proofs.Numbered.{count_links-each}
 
 expression_walked : (d : ℕ) (e : Expression) (links : List Link) (s : Sign) (a : written.Operand) (ds : List ℕ) (last : ℕ) (w w1 w2 w3 : Walk) → e ≡ chain (each_link link_of links) s a → w1 ≡ joined_in w (chain_joined d e w) → ds ≡ (chain_joined d e w).depths → w2 ≡ walk_links ds 0 (each_link link_of links) w1 → last ≡ depth_at ds (length links) → w3 ≡ walk_operand last a w2 → w3 ≡ walk_expression d e w
 expression_walked d e links s a ds last w w1 w2 w3 parts noted depths h2 number h3 =

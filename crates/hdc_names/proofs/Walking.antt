@@ -6,14 +6,15 @@ use Rattle.hdc_tree.specs.declared.program.Top.TheVariants as top
 use Rattle.hdc_names.specs.declared.found.Found.{Found}
 use Rattle.hdc_names.specs.declared.joining.Joining.{Joining}
 use Rattle.hdc_names.specs.declared.walk.Walk.{Walk}
-use Rattle.hdc_names.specs.Written.{variables, all_variables, Expression, chain, Links, no_link, link, Operand, variable, constructor, literal, unit, nil, cons, in_parentheses, tuple, list, range, comprehension, left_section, right_section, applied, lambda, let_in, if_else, case_of, Operands, no_operand, operand, Expressions, no_expression, expression, Qualifier, generator, condition, let_qualifier, Qualifiers, no_qualifier, qualifier, Alternative, blank, alternative, Alternatives, no_alternative, next_alternative, RightSide, plain, guarded, Guards, no_guard, guard, Declaration, empty, signature, equation, binding, Declarations, no_declaration, declaration, all_bound}
-use Rattle.hdc_names.specs.Mirror.{head_patterns, rhs_of}
-use Rattle.hdc_names.specs.Fixities.{Scope, locally}
-use Rattle.hdc_names.specs.Firsts.{first_of_op, first_of_pattern, first_of_operand, first_of_expression}
-use Rattle.hdc_names.specs.Sites.{Site, node, chain_site, left_site, right_site, is_minus, sign_of, rest_in, pattern_nodes, each_pattern_nodes, applied_nodes, joining_nodes, operand_depths, depth_at, count_links, count_operands, count_qualifiers, behind, all_behind, tree_in, in_expression, in_links, in_operand, in_operands, in_expressions, in_qualifier, in_qualifiers, in_alternative, in_alternatives, in_right_side, in_guards, in_declaration, in_declarations, in_top, in_tops}
+use Rattle.hdc_written.specs.Written.{variables, all_variables, Expression, chain, Links, no_link, link, Operand, variable, constructor, literal, unit, nil, cons, in_parentheses, tuple, list, range, comprehension, left_section, right_section, applied, lambda, let_in, if_else, case_of, Operands, no_operand, operand, Expressions, no_expression, expression, Qualifier, generator, condition, let_qualifier, Qualifiers, no_qualifier, qualifier, Alternative, blank, alternative, Alternatives, no_alternative, next_alternative, RightSide, plain, guarded, Guards, no_guard, guard, Declaration, empty, signature, equation, binding, Declarations, no_declaration, declaration, all_bound}
+use Rattle.hdc_written.specs.Mirror.{head_patterns, rhs_of}
+use Rattle.hdc_names.specs.Fixities.{Scope, undeclared, locally}
+use Rattle.hdc_written.specs.Firsts.{first_of_op, first_of_pattern, first_of_operand, first_of_expression}
+use Rattle.hdc_names.specs.Sites.{Site, node, chain_site, left_site, right_site, is_minus, sign_of, rest_in, pattern_nodes, each_pattern_nodes, applied_nodes, joining_nodes, operand_depths, depth_at, behind, all_behind, tree_in, in_expression, in_links, in_operand, in_operands, in_expressions, in_qualifier, in_qualifiers, in_alternative, in_alternatives, in_right_side, in_guards, in_declaration, in_declarations, in_top, in_tops}
+use Rattle.hdc_written.specs.Written.{count_links, count_operands, count_qualifiers}
 use Rattle.hdc_names.specs.Trees.{found_with, all_found, nothing_found}
 use Rattle.hdc_names.specs.Walk.{at_first, note, note_all, bind, chain_joined, joined_in, left_at, walk_expression, walk_links, walk_operand, walk_operands, walk_expressions, walk_qualifier, walk_qualifiers, walk_alternative, walk_alternatives, walk_right_side, walk_guards, walk_declaration, walk_declarations, walk_top, walk_tops}
-use Rattle.hdc_names.proofs.Scoping.{locally_joined, left_bound}
+use Rattle.hdc_written.proofs.Scoping.{bound_joined, left_bound}
 use Rattle.hdc_names.proofs.Noting.{found_joined}
 use Rattle.hdc_names.proofs.ChainNodes.{the_tree, chain_met}
 
@@ -34,7 +35,7 @@ and_then w first ss next ts e f =
 
 left : (w : Walk) (xs : List Name) (inner : Walk) (ss : List Site) → inner ≡ walked (bind xs w) ss → left_at (length w.scope) inner ≡ walked w ss
 left w xs inner ss e =
-    ap (left_at (length w.scope)) e ∙ ap (λ scope. within scope w ss) (left_bound xs w.scope)
+    ap (left_at (length w.scope)) e ∙ ap (λ scope. within scope w ss) (left_bound undeclared xs w.scope)
 
 -- nodes are noted first
 left_behind : (w : Walk) (ns : List Site) (xs : List Name) (inner : Walk) (ss : List Site) → inner ≡ walked (bind xs (note_all ns w)) ss → left_at (length w.scope) inner ≡ walked w (ns ++ ss)
@@ -42,7 +43,7 @@ left_behind w ns xs inner ss e = left (note_all ns w) xs inner ss e ∙ within_j
 
 left_twice : (w : Walk) (ns : List Site) (xs ys : List Name) (inner : Walk) (ss : List Site) → inner ≡ walked (bind ys (bind xs (note_all ns w))) ss → left_at (length w.scope) inner ≡ walked w (ns ++ ss)
 left_twice w ns xs ys inner ss e =
-    left_behind w ns (xs ++ ys) inner ss (e ∙ ap (λ scope. within scope (note_all ns w) ss) (sym (locally_joined xs ys w.scope)))
+    left_behind w ns (xs ++ ys) inner ss (e ∙ ap (λ scope. within scope (note_all ns w) ss) (sym (bound_joined undeclared xs ys w.scope)))
 
 -- what qualifiers bind
 abbrev named_by : Qualifier → List Name
@@ -62,7 +63,7 @@ behind_is scope (let_qualifier a ds) = refl
 all_behind_is : (qs : Qualifiers) (scope : Scope) → all_behind scope qs ≡ locally (all_named qs) scope
 all_behind_is no_qualifier scope = refl
 all_behind_is (qualifier q qs) scope =
-    all_behind_is qs (behind scope q) ∙ ap (locally (all_named qs)) (behind_is scope q) ∙ sym (locally_joined (named_by q) (all_named qs) scope)
+    all_behind_is qs (behind scope q) ∙ ap (locally (all_named qs)) (behind_is scope q) ∙ sym (bound_joined undeclared (named_by q) (all_named qs) scope)
 
 -- what is bound behind where
 abbrev local_to : RightSide → List Name
@@ -182,7 +183,7 @@ mutual
   walked_declaration : (d : Declaration) (w : Walk) → walk_declaration d w ≡ walked w (in_declaration the_tree w.scope d)
   walked_declaration empty w = refl
   walked_declaration (signature xs t) w = refl
-  walked_declaration (equation x ps r) w =
+  walked_declaration (equation at x ps r) w =
       let b = bind (all_variables ps) (note_all (each_pattern_nodes 1 ps) w) in
       left_twice w (each_pattern_nodes 1 ps) (all_variables ps) (local_to r) (walk_right_side 1 r b) (in_right_side the_tree b.scope 1 r) (walked_right_side r 1 b)
   walked_declaration (binding p r) w =

@@ -10,8 +10,8 @@ use Rattle.hdc_tree.specs.declared.program.CommaVarOp.{CommaVarOp}
 use Rattle.hdc_tree.specs.declared.program.Top.{Top}
 use Rattle.hdc_tree.specs.declared.program.Top.TheVariants as top
 use Rattle.hdc_names.specs.declared.fixity.Fixity.{Fixity}
-use Rattle.hdc_names.specs.Scopes.{Binding, standing_for}
-use Rattle.hdc_names.specs.Mirror.{op_name, head_name}
+use Rattle.hdc_written.specs.Scopes.{Binding, standing_for, bound_to}
+use Rattle.hdc_written.specs.Mirror.{op_name, head_name}
 
 -- how the names that are in scope bind
 abbrev pub Scope : Type 0
@@ -36,8 +36,7 @@ fixity_in scope (op.Con a c b) = undeclared
 
 -- where names are bound locally
 abbrev pub locally : List Name → Scope → Scope
-locally [] scope = scope
-locally (x ∷ xs) scope = locally xs (record { name = x.text; what = undeclared } ∷ scope)
+locally = bound_to undeclared
 
 -- the operators of the prelude
 abbrev pub standard : Scope

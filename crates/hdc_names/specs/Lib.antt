@@ -1,15 +1,7 @@
-pub mod Stacks
 pub mod OperatorTrees
 pub mod Grouping
 pub mod Chain
-pub mod Scopes
-pub mod Links
-pub mod WrittenTypes
-pub mod Written
-pub mod TypeMirror
-pub mod Mirror
 pub mod Fixities
-pub mod Firsts
 pub mod Sites
 pub mod Trees
 pub mod Walk

@@ -13,12 +13,13 @@ use Rattle.hdc_tree.specs.declared.program.Top.TheVariants as top
 use Rattle.hdc_names.specs.declared.chain.NextOperand.{NextOperand}
 use Rattle.hdc_names.specs.OperatorTrees.{leaf, binary, negated}
 use Rattle.hdc_names.specs.Chain.{Tree}
-use Rattle.hdc_names.specs.WrittenTypes.{WrittenType, type_constructor, type_variable, unit_type, type_in_parentheses, tuple_type, list_type, arrow_type, Types, no_type, next_type}
-use Rattle.hdc_names.specs.TypeMirror.{atype_of, type_exp_of}
-use Rattle.hdc_names.specs.Written.{Pattern, named, named_as, anything, built, literal_pattern, negative_pattern, unit_pattern, nil_pattern, pattern_in_parentheses, tuple_pattern, list_pattern, cons_pattern, Patterns, no_pattern, pattern}
-use Rattle.hdc_names.specs.Written.{variables, all_variables, Expression, chain, Links, no_link, link, Operand, variable, constructor, literal, unit, nil, cons, in_parentheses, tuple, list, range, comprehension, left_section, right_section, applied, lambda, let_in, if_else, case_of, Operands, no_operand, operand, Expressions, no_expression, expression, Qualifier, generator, condition, let_qualifier, Qualifiers, no_qualifier, qualifier, Alternative, blank, alternative, Alternatives, no_alternative, next_alternative, RightSide, plain, guarded, Guards, no_guard, guard, Declaration, empty, signature, equation, binding, Declarations, no_declaration, declaration, all_bound}
-use Rattle.hdc_names.specs.Mirror.{op_name, head_patterns, rhs_of}
-use Rattle.hdc_names.specs.Firsts.{first_of_pattern, first_of_type, first_of_op, first_of_operand, first_of_expression, first_of_var, operand_at, start_at, operator_before}
+use Rattle.hdc_written.specs.WrittenTypes.{WrittenType, type_constructor, type_variable, unit_type, type_in_parentheses, tuple_type, list_type, arrow_type, Types, no_type, next_type}
+use Rattle.hdc_written.specs.TypeMirror.{atype_of, type_exp_of}
+use Rattle.hdc_written.specs.Written.{Pattern, named, named_as, anything, built, literal_pattern, negative_pattern, unit_pattern, nil_pattern, pattern_in_parentheses, tuple_pattern, list_pattern, cons_pattern, Patterns, no_pattern, pattern}
+use Rattle.hdc_written.specs.Written.{count_links, count_operands, count_qualifiers}
+use Rattle.hdc_written.specs.Written.{variables, all_variables, Expression, chain, Links, no_link, link, Operand, variable, constructor, literal, unit, nil, cons, in_parentheses, tuple, list, range, comprehension, left_section, right_section, applied, lambda, let_in, if_else, case_of, Operands, no_operand, operand, Expressions, no_expression, expression, Qualifier, generator, condition, let_qualifier, Qualifiers, no_qualifier, qualifier, Alternative, blank, alternative, Alternatives, no_alternative, next_alternative, RightSide, plain, guarded, Guards, no_guard, guard, Declaration, empty, signature, equation, binding, Declarations, no_declaration, declaration, all_bound}
+use Rattle.hdc_written.specs.Mirror.{op_name, head_patterns, rhs_of}
+use Rattle.hdc_written.specs.Firsts.{first_of_pattern, first_of_type, first_of_op, first_of_operand, first_of_expression, first_of_var, operand_at, start_at, operator_before}
 use Rattle.hdc_names.specs.Fixities.{Scope, fixity_in, locally, standard, program_scope}
 
 -- a chain, which has to have a tree; one whose tree has to have the operator before the operand of this number at its root,
@@ -159,14 +160,6 @@ joining_nodes e at d (leaf k) = []
 joining_nodes e at d (binary l o r) = node d at ∷ (node (suc d) (operator_before e o.number) ∷ (joining_nodes e (start_at e o.number) (suc d) r ++ joining_nodes e at (suc d) l))
 joining_nodes e at d (negated k b) = node d at ∷ joining_nodes e (operand_at e k) (suc d) b
 
-abbrev pub count_links : Links → ℕ
-count_links no_link = 0
-count_links (link s a o ls) = suc (count_links ls)
-
-abbrev pub count_operands : Operands → ℕ
-count_operands no_operand = 0
-count_operands (operand a as') = suc (count_operands as')
-
 -- a function with its arguments, and with all but the last ones, down to the first alone
 abbrev pub applied_nodes : ℕ → At → Operands → List Site
 applied_nodes d at no_operand = []
@@ -183,10 +176,6 @@ behind scope (let_qualifier a ds) = locally (all_bound ds) scope
 abbrev pub all_behind : Scope → Qualifiers → Scope
 all_behind scope no_qualifier = scope
 all_behind scope (qualifier q qs) = all_behind (behind scope q) qs
-
-abbrev pub count_qualifiers : Qualifiers → ℕ
-count_qualifiers no_qualifier = 0
-count_qualifiers (qualifier q qs) = suc (count_qualifiers qs)
 
 -- the fields of a data type
 abbrev pub field_nodes : List Atype → List Site
@@ -278,7 +267,7 @@ module _ (trees : Bool → List NextOperand → Tree) where
     pub in_declaration : Scope → Declaration → List Site
     in_declaration scope empty = []
     in_declaration scope (signature xs t) = type_nodes 1 t
-    in_declaration scope (equation x ps r) = each_pattern_nodes 1 ps ++ in_right_side (locally (all_variables ps) scope) 1 r
+    in_declaration scope (equation at x ps r) = each_pattern_nodes 1 ps ++ in_right_side (locally (all_variables ps) scope) 1 r
     in_declaration scope (binding p r) = pattern_nodes 1 p ++ in_right_side scope 1 r
 
     pub in_declarations : Scope → Declarations → List Site

@@ -9,13 +9,14 @@ use Rattle.hdc_names.specs.declared.found.Found.{Found}
 use Rattle.hdc_names.specs.declared.joining.Joining.{Joining}
 use Rattle.hdc_names.specs.declared.joining.Pending.{Pending}
 use Rattle.hdc_names.specs.declared.walk.Walk.{Walk}
-use Rattle.hdc_names.specs.Written.{variables, all_variables, Expression, chain, Links, no_link, link, Operand, variable, constructor, literal, unit, nil, cons, in_parentheses, tuple, list, range, comprehension, left_section, right_section, applied, lambda, let_in, if_else, case_of, Operands, no_operand, operand, Expressions, no_expression, expression, Qualifier, generator, condition, let_qualifier, Qualifiers, no_qualifier, qualifier, Alternative, blank, alternative, Alternatives, no_alternative, next_alternative, RightSide, plain, guarded, Guards, no_guard, guard, Declaration, empty, signature, equation, binding, Declarations, no_declaration, declaration, all_bound}
-use Rattle.hdc_names.specs.TypeMirror.{type_exp_of}
-use Rattle.hdc_names.specs.Mirror.{head_patterns, rhs_of}
+use Rattle.hdc_written.specs.Written.{variables, all_variables, Expression, chain, Links, no_link, link, Operand, variable, constructor, literal, unit, nil, cons, in_parentheses, tuple, list, range, comprehension, left_section, right_section, applied, lambda, let_in, if_else, case_of, Operands, no_operand, operand, Expressions, no_expression, expression, Qualifier, generator, condition, let_qualifier, Qualifiers, no_qualifier, qualifier, Alternative, blank, alternative, Alternatives, no_alternative, next_alternative, RightSide, plain, guarded, Guards, no_guard, guard, Declaration, empty, signature, equation, binding, Declarations, no_declaration, declaration, all_bound}
+use Rattle.hdc_written.specs.TypeMirror.{type_exp_of}
+use Rattle.hdc_written.specs.Mirror.{head_patterns, rhs_of}
 use Rattle.hdc_names.specs.Fixities.{Scope, locally}
 use Rattle.hdc_names.specs.Chain.{read}
-use Rattle.hdc_names.specs.Firsts.{first_of_var, first_of_op, first_of_pattern, first_of_operand, first_of_expression, operand_at, start_at, operator_before}
-use Rattle.hdc_names.specs.Sites.{Site, node, chain_site, left_site, right_site, is_minus, sign_of, rest_in, pattern_nodes, each_pattern_nodes, type_nodes, applied_nodes, data_nodes, depth_at, count_links, count_operands, count_qualifiers}
+use Rattle.hdc_written.specs.Firsts.{first_of_var, first_of_op, first_of_pattern, first_of_operand, first_of_expression, operand_at, start_at, operator_before}
+use Rattle.hdc_names.specs.Sites.{Site, node, chain_site, left_site, right_site, is_minus, sign_of, rest_in, pattern_nodes, each_pattern_nodes, type_nodes, applied_nodes, data_nodes, depth_at}
+use Rattle.hdc_written.specs.Written.{count_links, count_operands, count_qualifiers}
 use Rattle.hdc_names.specs.Trees.{nothing_found, found_with, all_found}
 
 -- nothing was found yet
@@ -137,7 +138,7 @@ abbrev mutual
   pub walk_declaration : Declaration → Walk → Walk
   walk_declaration empty w = w
   walk_declaration (signature xs t) w = note_all (type_nodes 1 t) w
-  walk_declaration (equation x ps r) w = left_at (length w.scope) (walk_right_side 1 r (bind (all_variables ps) (note_all (each_pattern_nodes 1 ps) w)))
+  walk_declaration (equation at x ps r) w = left_at (length w.scope) (walk_right_side 1 r (bind (all_variables ps) (note_all (each_pattern_nodes 1 ps) w)))
   walk_declaration (binding p r) w = left_at (length w.scope) (walk_right_side 1 r (note_all (pattern_nodes 1 p) w))
 
   pub walk_declarations : Declarations → Walk → Walk

@@ -1,23 +1,22 @@
 //! Whether each chain and section of a program has a tree, and none is too deep.
 
 ghost use Rattle.std.specs.Prelude.{◌≡◌, OnOk, IfOk};
-ghost use Rattle.hdc_names.specs.Mirror as mirror;
-ghost use Rattle.hdc_names.specs.Mirror.{tops_of};
+ghost use Rattle.hdc_written.specs.Mirror as mirror;
+ghost use Rattle.hdc_written.specs.Mirror.{tops_of};
 ghost use Rattle.hdc_names.specs.Fixities as fixities;
 ghost use Rattle.hdc_names.specs.Trees.{IsChecked};
 ghost use Rattle.hdc_names.specs.Trees as spec;
 ghost use Rattle.hdc_names.specs.Walk as model;
 
-use crate::binders::bind_head;
 use crate::fixity::Fixity;
 use crate::found::Found;
-use crate::operator::{bind_standard, program_scope};
+use crate::operator::{bind_standard, program_scope, undeclared};
 use crate::pattern_nodes::note_head;
-use crate::scope::Scope;
 use crate::type_nodes::{note_data, note_type};
 use crate::walk::{Walk, walk_rhs};
 use hdc_base::At;
 use hdc_tree::{NextTop, Top, Tree};
+use hdc_written::{Scope, bind_head};
 use std::alloc::{AllocError, Global};
 
 /// Why a program has no operator trees, or too deep ones.
@@ -133,7 +132,7 @@ fn walk_top<'t>(alloc: Global, walk: &mut Walk<'t>, part: &'t Top) -> Result<(),
         Top::Equation(head, rhs) => {
             note_head(&mut walk.found, head)?;
             let size = walk.scope.size();
-            bind_head(&mut walk.scope, head)?;
+            bind_head(&mut walk.scope, undeclared(), head)?;
             walk_rhs(alloc, walk, 1, rhs)?;
             walk.scope.leave(size);
             Ok(())

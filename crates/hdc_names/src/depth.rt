@@ -1,7 +1,7 @@
 //! Depths of nodes.
 
 ghost use Rattle.std.specs.Prelude.{◌≡◌, ◌+◌, suc, IfOk};
-ghost use Rattle.hdc_names.specs.Mirror as mirror;
+ghost use Rattle.hdc_written.specs.Mirror as mirror;
 ghost use Rattle.hdc_names.specs.Sites as spec;
 
 use hdc_tree::{Aexp, CommaQual};

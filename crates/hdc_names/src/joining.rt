@@ -1,17 +1,16 @@
 //! The nodes that join the operands of a chain.
 
 ghost use Rattle.std.specs.Prelude.{◌≡◌, [], ◌∷◌, OnOk, IfOk};
-ghost use Rattle.hdc_names.specs.Mirror as mirror;
+ghost use Rattle.hdc_written.specs.Mirror as mirror;
 ghost use Rattle.hdc_names.specs.Walk as spec;
 
 use crate::chain::Step;
 use crate::depth::deeper;
-use crate::first::{first_of_exp, operand_at, operator_before, start_at};
 use crate::found::Found;
-use crate::stack::Stack;
 use hdc_base::At;
 use hdc_tree::Expression;
 use sqlite_items::Items;
+use hdc_written::{Stack, first_of_exp, operand_at, operator_before, start_at};
 use std::alloc::{AllocError, Global};
 
 /// A tree whose steps are still to come, which begins at a place.
@@ -32,7 +31,7 @@ pub(crate) struct Joining {
 
 /// The depths of the operands of a chain, whose tree has this depth and is built by these steps; its nodes are
 /// noted.
-#[tactic(auto, using(crate::proofs::ExpressionMirror::mirrored_expressions))]
+#[tactic(auto, using(hdc_written::proofs::ExpressionMirror::mirrored_expressions))]
 pub(crate) fn join(
     alloc: Global,
     depth: u64,

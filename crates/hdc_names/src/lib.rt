@@ -4,27 +4,23 @@
 //! and a program has a tree, and none of its trees is too deep; or the first place where that fails
 //! (`specs/Trees.antt`). Which tree a chain stands for is said in `specs/OperatorTrees.antt`, which chains,
 //! sections and nodes a program has in `specs/Sites.antt`, and how its operators bind in `specs/Fixities.antt`.
-//! Definitions speak of programs without the memory that holds them (`specs/Written.antt`, `specs/Mirror.antt`).
+//! Definitions speak of programs without the memory that holds them (`hdc_written`).
 //!
 //! `steps` answers how the tree of one chain is built, or the first operand up to which the chain has none
 //! (`specs/Chain.antt`); `one_tree` says that a chain has at most one, and `no_tree_behind` that it has none
 //! where it has none up to an operand.
 #![tactic(auto)]
 
-mod binders;
 mod chain;
 mod check;
 mod depth;
-mod first;
 mod fixity;
 mod found;
 mod joining;
 mod laws;
 mod operator;
 mod pattern_nodes;
-mod scope;
 mod site;
-mod stack;
 #[cfg(test)]
 mod tests;
 mod type_nodes;

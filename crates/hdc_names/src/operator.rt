@@ -3,16 +3,15 @@
 ghost use Rattle.std.specs.Prelude.{◌≡◌, [], ◌∷◌, ◌++◌, OnOk, IfOk};
 ghost use Rattle.hdc_tree.specs.declared.program.Top.TheVariants as top;
 ghost use Rattle.hdc_names.specs.Fixities as spec;
-ghost use Rattle.hdc_names.specs.Mirror as mirror;
-ghost use Rattle.hdc_names.specs.Scopes.{standing_for};
+ghost use Rattle.hdc_written.specs.Mirror as mirror;
+ghost use Rattle.hdc_written.specs.Scopes.{standing_for};
 ghost use Rattle.hdc_names.specs.Sites as sites;
 
 use crate::fixity::Fixity;
-use crate::scope::Scope;
+use hdc_written::{Scope, head_name, op_name};
 use hdc_base::At;
 use hdc_tree::{
-    Associativity, CommaVarOp, Fixity as FixityDeclaration, Head, Name, NextTop, Op, Top, Tree,
-    Var, VarOp,
+    Associativity, Fixity as FixityDeclaration, Name, NextTop, Op, Top, Tree,
 };
 use std::alloc::{AllocError, Global};
 
@@ -57,36 +56,6 @@ pub(crate) fn place_of_op(op: &Op) -> At
         Op::Var(var) => op_name(var).at,
         Op::Cons(at) => *at,
         Op::Con(_open_at, name, _close_at) => name.at,
-    }
-}
-
-/// The name of an operator that is a variable.
-pub(crate) fn op_name(op: &VarOp) -> &Name
-    ensures { result.now ≡ mirror.op_name op.now }
-{
-    match op {
-        VarOp::Symbol(name) => name,
-        VarOp::Quoted(_open_at, name, _close_at) => name,
-    }
-}
-
-/// The name that an equation defines.
-pub(crate) fn head_name(head: &Head) -> &Name
-    ensures { result.now ≡ mirror.head_name head.now }
-{
-    match head {
-        Head::Prefix(var, _params) => var_name(var),
-        Head::Infix(_left, op, _right) => op_name(op),
-        Head::Paren(_open_at, _left, op, _right, _close_at, _first, _rest) => op_name(op),
-    }
-}
-
-fn var_name(var: &Var) -> &Name
-    ensures { result.now ≡ mirror.var_name var.now }
-{
-    match var {
-        Var::Plain(name) => name,
-        Var::Operator(_open_at, name, _close_at) => name,
     }
 }
 
@@ -257,14 +226,4 @@ fn bind_as<'t>(
     ensures { OnOk result (scope.new ≡ record { name = name.now.text; what = fixity } ∷ scope.old) }
 {
     scope.bind(name.text.as_slice(), fixity)
-}
-
-/// A name is bound locally.
-pub(crate) fn bind_locally<'t>(
-    scope: &mut Scope<'t, Fixity>,
-    name: &'t Name,
-) -> Result<(), AllocError>
-    ensures { OnOk result (scope.new ≡ spec.locally (name.now ∷ []) scope.old) }
-{
-    bind_as(scope, name, undeclared())
 }

@@ -1,16 +1,16 @@
 //! The nodes of patterns.
 
 ghost use Rattle.std.specs.Prelude.{◌≡◌, OnOk, IfOk};
-ghost use Rattle.hdc_names.specs.Mirror as mirror;
+ghost use Rattle.hdc_written.specs.Mirror as mirror;
 ghost use Rattle.hdc_names.specs.Sites as spec;
 ghost use Rattle.hdc_names.specs.Trees.{all_found};
-ghost use Rattle.hdc_names.specs.Written.{pattern};
+ghost use Rattle.hdc_written.specs.Written.{pattern};
 
 use crate::depth::deeper;
-use crate::first::first_of_left_pat;
 use crate::found::Found;
 use hdc_base::At;
 use hdc_tree::{Apat, CommaPat, ConsPat, Head, LeftPat, Pat};
+use hdc_written::first_of_left_pat;
 use std::alloc::AllocError;
 
 /// What begins at a place and is joined with another one, if one follows, stands below a node; its depth.
@@ -40,7 +40,7 @@ fn follow(parts: &[ConsPat]) -> bool
 }
 
 #[cycle(note_patterns)]
-#[tactic(auto, using(crate::proofs::Noting::in_order, crate::proofs::PatternMirror::mirrored_patterns))]
+#[tactic(auto, using(crate::proofs::Noting::in_order, hdc_written::proofs::PatternMirror::mirrored_patterns))]
 fn note_apat(found: &mut Found, depth: u64, part: &Apat) -> Result<(), AllocError>
     ensures { OnOk result (found.new ≡ all_found found.old (spec.pattern_nodes depth (mirror.apat_of part.now))) }
 {
@@ -90,7 +90,7 @@ fn note_apat(found: &mut Found, depth: u64, part: &Apat) -> Result<(), AllocErro
 }
 
 #[cycle(note_patterns)]
-#[tactic(auto, using(crate::proofs::Noting::in_order, crate::proofs::PatternMirror::mirrored_patterns))]
+#[tactic(auto, using(crate::proofs::Noting::in_order, hdc_written::proofs::PatternMirror::mirrored_patterns))]
 fn note_left_pat(found: &mut Found, depth: u64, part: &LeftPat) -> Result<(), AllocError>
     ensures { OnOk result (found.new ≡ all_found found.old (spec.pattern_nodes depth (mirror.left_pat_of part.now))) }
 {
@@ -111,7 +111,7 @@ fn note_left_pat(found: &mut Found, depth: u64, part: &LeftPat) -> Result<(), Al
 
 /// The nodes of a pattern of this depth.
 #[cycle(note_patterns)]
-#[tactic(auto, using(crate::proofs::Noting::in_order, crate::proofs::PatternMirror::mirrored_patterns))]
+#[tactic(auto, using(crate::proofs::Noting::in_order, hdc_written::proofs::PatternMirror::mirrored_patterns))]
 pub(crate) fn note_pat(found: &mut Found, depth: u64, part: &Pat) -> Result<(), AllocError>
     ensures { OnOk result (found.new ≡ all_found found.old (spec.pattern_nodes depth (mirror.pat_of part.now))) }
 {
@@ -122,7 +122,7 @@ pub(crate) fn note_pat(found: &mut Found, depth: u64, part: &Pat) -> Result<(), 
 }
 
 #[cycle(note_patterns)]
-#[tactic(auto, using(crate::proofs::Noting::in_order, crate::proofs::PatternMirror::mirrored_patterns))]
+#[tactic(auto, using(crate::proofs::Noting::in_order, hdc_written::proofs::PatternMirror::mirrored_patterns))]
 fn note_apats(found: &mut Found, depth: u64, parts: &[Apat]) -> Result<(), AllocError>
     ensures { OnOk result (found.new ≡ all_found found.old (spec.each_pattern_nodes depth (mirror.each_pattern mirror.apat_of parts.now))) }
 {
@@ -133,7 +133,7 @@ fn note_apats(found: &mut Found, depth: u64, parts: &[Apat]) -> Result<(), Alloc
 }
 
 #[cycle(note_patterns)]
-#[tactic(auto, using(crate::proofs::Noting::in_order, crate::proofs::PatternMirror::mirrored_patterns))]
+#[tactic(auto, using(crate::proofs::Noting::in_order, hdc_written::proofs::PatternMirror::mirrored_patterns))]
 fn note_comma_pats(found: &mut Found, depth: u64, parts: &[CommaPat]) -> Result<(), AllocError>
     ensures { OnOk result (found.new ≡ all_found found.old (spec.each_pattern_nodes depth (mirror.each_pattern mirror.comma_pat_of parts.now))) }
 {
@@ -144,7 +144,7 @@ fn note_comma_pats(found: &mut Found, depth: u64, parts: &[CommaPat]) -> Result<
 }
 
 #[cycle(note_patterns)]
-#[tactic(auto, using(crate::proofs::Noting::in_order, crate::proofs::PatternMirror::mirrored_patterns))]
+#[tactic(auto, using(crate::proofs::Noting::in_order, hdc_written::proofs::PatternMirror::mirrored_patterns))]
 fn note_cons_pats(found: &mut Found, depth: u64, parts: &[ConsPat]) -> Result<(), AllocError>
     ensures { OnOk result (found.new ≡ all_found found.old (spec.cons_nodes depth (mirror.each_pattern mirror.cons_pat_of parts.now))) }
 {
@@ -160,7 +160,7 @@ fn note_cons_pats(found: &mut Found, depth: u64, parts: &[ConsPat]) -> Result<()
 }
 
 /// The nodes of parameters.
-#[tactic(auto, using(crate::proofs::Noting::in_order, crate::proofs::PatternMirror::mirrored_patterns))]
+#[tactic(auto, using(crate::proofs::Noting::in_order, hdc_written::proofs::PatternMirror::mirrored_patterns))]
 pub(crate) fn note_params(found: &mut Found, first: &Apat, rest: &[Apat]) -> Result<(), AllocError>
     ensures { OnOk result (found.new ≡ all_found found.old (spec.each_pattern_nodes 1 (pattern (mirror.apat_of first.now) (mirror.each_pattern mirror.apat_of rest.now)))) }
 {
@@ -169,7 +169,7 @@ pub(crate) fn note_params(found: &mut Found, first: &Apat, rest: &[Apat]) -> Res
 }
 
 /// The nodes of the parameters of an equation.
-#[tactic(auto, using(crate::proofs::Noting::in_order, crate::proofs::PatternMirror::mirrored_patterns))]
+#[tactic(auto, using(crate::proofs::Noting::in_order, hdc_written::proofs::PatternMirror::mirrored_patterns))]
 pub(crate) fn note_head(found: &mut Found, head: &Head) -> Result<(), AllocError>
     ensures { OnOk result (found.new ≡ all_found found.old (spec.each_pattern_nodes 1 (mirror.head_patterns head.now))) }
 {

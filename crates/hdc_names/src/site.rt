@@ -1,21 +1,21 @@
 //! The chains and sections that have to have a tree.
 
 ghost use Rattle.std.specs.Prelude.{◌≡◌, ◌++◌, OnOk, IfOk};
-ghost use Rattle.hdc_names.specs.Mirror as mirror;
+ghost use Rattle.hdc_written.specs.Mirror as mirror;
 ghost use Rattle.hdc_names.specs.Sites as spec;
 ghost use Rattle.hdc_names.specs.Trees.{ends_with, fault_of, place_of};
 
 use crate::chain::{ChainStop, NextOperand, Step, steps};
 use crate::fixity::Fixity;
 use crate::operator::{fixity_in, place_of_op};
-use crate::scope::Scope;
 use hdc_base::At;
 use hdc_tree::{Expression, Link, Op, Sign};
 use sqlite_items::Items;
+use hdc_written::Scope;
 use std::alloc::{AllocError, Global};
 
 /// The operators of the chain of an expression, and the operands behind them.
-#[tactic(auto, using(crate::proofs::ExpressionMirror::mirrored_expressions))]
+#[tactic(auto, using(hdc_written::proofs::ExpressionMirror::mirrored_expressions))]
 pub(crate) fn operators_of(
     alloc: Global,
     scope: &Scope<Fixity>,
@@ -29,7 +29,7 @@ pub(crate) fn operators_of(
 }
 
 /// Where a section is at fault with its operator on the right, if it is.
-#[tactic(auto, using(crate::proofs::ExpressionMirror::mirrored_expressions))]
+#[tactic(auto, using(hdc_written::proofs::ExpressionMirror::mirrored_expressions))]
 pub(crate) fn left_fault(
     alloc: Global,
     scope: &Scope<Fixity>,
@@ -52,7 +52,7 @@ pub(crate) fn left_fault(
 }
 
 /// Where a section is at fault with its operator on the left, if it is.
-#[tactic(auto, using(crate::proofs::ExpressionMirror::mirrored_expressions))]
+#[tactic(auto, using(hdc_written::proofs::ExpressionMirror::mirrored_expressions))]
 pub(crate) fn right_fault(
     alloc: Global,
     scope: &Scope<Fixity>,
@@ -68,7 +68,7 @@ pub(crate) fn right_fault(
 }
 
 /// Whether the first operand of the chain of an expression has a sign.
-#[tactic(auto, using(crate::proofs::ExpressionMirror::mirrored_expressions))]
+#[tactic(auto, using(hdc_written::proofs::ExpressionMirror::mirrored_expressions))]
 pub(crate) fn is_signed(exp: &Expression) -> bool
     ensures { result ≡ spec.is_minus (spec.sign_of (mirror.exp_of exp.now)) }
 {
@@ -78,7 +78,7 @@ pub(crate) fn is_signed(exp: &Expression) -> bool
     }
 }
 
-#[tactic(auto, using(crate::proofs::ExpressionMirror::mirrored_expressions))]
+#[tactic(auto, using(hdc_written::proofs::ExpressionMirror::mirrored_expressions))]
 fn first_sign(links: &[Link], last: Sign) -> Sign
     ensures { result ≡ spec.first_sign (mirror.each_link mirror.link_of links.now) last }
 {
@@ -89,7 +89,7 @@ fn first_sign(links: &[Link], last: Sign) -> Sign
 }
 
 // The operators of a chain and the operands behind them.
-#[tactic(auto, using(crate::proofs::ExpressionMirror::mirrored_expressions))]
+#[tactic(auto, using(hdc_written::proofs::ExpressionMirror::mirrored_expressions))]
 fn push_rest(
     scope: &Scope<Fixity>,
     exp: &Expression,
@@ -100,7 +100,7 @@ fn push_rest(
     push_links(scope, exp.links.as_slice(), exp.sign, rest)
 }
 
-#[tactic(auto, using(crate::proofs::ExpressionMirror::mirrored_expressions))]
+#[tactic(auto, using(hdc_written::proofs::ExpressionMirror::mirrored_expressions))]
 fn push_links(
     scope: &Scope<Fixity>,
     links: &[Link],

@@ -3,13 +3,13 @@
 ghost use Rattle.std.specs.Prelude.{◌≡◌, OnOk};
 ghost use Rattle.hdc_names.specs.Sites as spec;
 ghost use Rattle.hdc_names.specs.Trees.{all_found};
-ghost use Rattle.hdc_names.specs.TypeMirror as mirror;
+ghost use Rattle.hdc_written.specs.TypeMirror as mirror;
 
 use crate::depth::deeper;
-use crate::first::first_of_btype;
 use crate::found::Found;
 use crate::pattern_nodes::note_joined;
 use hdc_tree::{ArrowType, Atype, BarConstr, Btype, CommaType, Data, TypeExp};
+use hdc_written::first_of_btype;
 use std::alloc::AllocError;
 
 fn follow(parts: &[ArrowType]) -> bool
@@ -22,7 +22,7 @@ fn follow(parts: &[ArrowType]) -> bool
 }
 
 #[cycle(note_types)]
-#[tactic(auto, using(crate::proofs::Noting::in_order, crate::proofs::TypeMirror::mirrored_types))]
+#[tactic(auto, using(crate::proofs::Noting::in_order, hdc_written::proofs::TypeMirror::mirrored_types))]
 fn note_atype(found: &mut Found, depth: u64, part: &Atype) -> Result<(), AllocError>
     ensures { OnOk result (found.new ≡ all_found found.old (spec.type_nodes depth (mirror.atype_of part.now))) }
 {
@@ -54,7 +54,7 @@ fn note_atype(found: &mut Found, depth: u64, part: &Atype) -> Result<(), AllocEr
 }
 
 #[cycle(note_types)]
-#[tactic(auto, using(crate::proofs::Noting::in_order, crate::proofs::TypeMirror::mirrored_types))]
+#[tactic(auto, using(crate::proofs::Noting::in_order, hdc_written::proofs::TypeMirror::mirrored_types))]
 fn note_btype(found: &mut Found, depth: u64, part: &Btype) -> Result<(), AllocError>
     ensures { OnOk result (found.new ≡ all_found found.old (spec.type_nodes depth (mirror.btype_of part.now))) }
 {
@@ -71,7 +71,7 @@ fn note_btype(found: &mut Found, depth: u64, part: &Btype) -> Result<(), AllocEr
 
 /// The nodes of a type of this depth.
 #[cycle(note_types)]
-#[tactic(auto, using(crate::proofs::Noting::in_order, crate::proofs::TypeMirror::mirrored_types))]
+#[tactic(auto, using(crate::proofs::Noting::in_order, hdc_written::proofs::TypeMirror::mirrored_types))]
 pub(crate) fn note_type(found: &mut Found, depth: u64, part: &TypeExp) -> Result<(), AllocError>
     ensures { OnOk result (found.new ≡ all_found found.old (spec.type_nodes depth (mirror.type_exp_of part.now))) }
 {
@@ -82,7 +82,7 @@ pub(crate) fn note_type(found: &mut Found, depth: u64, part: &TypeExp) -> Result
 }
 
 #[cycle(note_types)]
-#[tactic(auto, using(crate::proofs::Noting::in_order, crate::proofs::TypeMirror::mirrored_types))]
+#[tactic(auto, using(crate::proofs::Noting::in_order, hdc_written::proofs::TypeMirror::mirrored_types))]
 fn note_atypes(found: &mut Found, depth: u64, parts: &[Atype]) -> Result<(), AllocError>
     ensures { OnOk result (found.new ≡ all_found found.old (spec.each_type_nodes depth (mirror.each_type mirror.atype_of parts.now))) }
 {
@@ -93,7 +93,7 @@ fn note_atypes(found: &mut Found, depth: u64, parts: &[Atype]) -> Result<(), All
 }
 
 #[cycle(note_types)]
-#[tactic(auto, using(crate::proofs::Noting::in_order, crate::proofs::TypeMirror::mirrored_types))]
+#[tactic(auto, using(crate::proofs::Noting::in_order, hdc_written::proofs::TypeMirror::mirrored_types))]
 fn note_comma_types(found: &mut Found, depth: u64, parts: &[CommaType]) -> Result<(), AllocError>
     ensures { OnOk result (found.new ≡ all_found found.old (spec.each_type_nodes depth (mirror.each_type mirror.comma_type_of parts.now))) }
 {
@@ -104,7 +104,7 @@ fn note_comma_types(found: &mut Found, depth: u64, parts: &[CommaType]) -> Resul
 }
 
 #[cycle(note_types)]
-#[tactic(auto, using(crate::proofs::Noting::in_order, crate::proofs::TypeMirror::mirrored_types))]
+#[tactic(auto, using(crate::proofs::Noting::in_order, hdc_written::proofs::TypeMirror::mirrored_types))]
 fn note_arrow_types(found: &mut Found, depth: u64, parts: &[ArrowType]) -> Result<(), AllocError>
     ensures { OnOk result (found.new ≡ all_found found.old (spec.arrow_nodes depth (mirror.each_type mirror.arrow_type_of parts.now))) }
 {

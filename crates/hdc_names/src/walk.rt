@@ -1,19 +1,17 @@
 //! A walk over the sites of a program, in scope.
 
 ghost use Rattle.std.specs.Prelude.{◌≡◌, OnOk, IfOk};
-ghost use Rattle.hdc_names.specs.Mirror as mirror;
+ghost use Rattle.hdc_written.specs.Mirror as mirror;
 ghost use Rattle.hdc_names.specs.Sites as sites;
 ghost use Rattle.hdc_names.specs.Walk as spec;
 
-use crate::binders::{bind_block, bind_head, bind_params, bind_pat, bind_where};
 use crate::chain::{ChainStop, steps};
 use crate::depth::{deeper, depth_at, function_depth, head_depth};
-use crate::first::{first_of_aexp, first_of_exp, first_of_op, first_of_pat};
 use crate::fixity::Fixity;
 use crate::found::Found;
+use crate::operator::undeclared;
 use crate::joining::join;
 use crate::pattern_nodes::{note_head, note_params, note_pat};
-use crate::scope::Scope;
 use crate::site::{is_signed, left_fault, operators_of, place_of, right_fault};
 use crate::type_nodes::note_type;
 use hdc_base::At;
@@ -21,6 +19,7 @@ use hdc_tree::{
     Aexp, Alt, Alts, Apply, ArrowGuard, Block, CommaExp, CommaQual, Decl, EqualGuard, Expression,
     Link, ListExp, NextAlt, NextDecl, Op, Operand, Qual, Rhs, Where,
 };
+use hdc_written::{Scope, bind_block, bind_head, bind_params, bind_pat, bind_where, first_of_aexp, first_of_exp, first_of_op, first_of_pat};
 use std::alloc::{AllocError, Global};
 
 /// What is in scope, and what was found so far.
@@ -97,7 +96,7 @@ impl<'t> Walk<'t> {
 }
 
 #[cycle(walk_expressions)]
-#[tactic(auto, using(crate::proofs::ExpressionMirror::mirrored_expressions))]
+#[tactic(auto, using(hdc_written::proofs::ExpressionMirror::mirrored_expressions))]
 fn walk_exp<'t>(
     alloc: Global,
     walk: &mut Walk<'t>,
@@ -113,7 +112,7 @@ fn walk_exp<'t>(
 }
 
 #[cycle(walk_expressions)]
-#[tactic(auto, using(crate::proofs::ExpressionMirror::mirrored_expressions))]
+#[tactic(auto, using(hdc_written::proofs::ExpressionMirror::mirrored_expressions))]
 fn walk_links<'t>(
     alloc: Global,
     walk: &mut Walk<'t>,
@@ -130,7 +129,7 @@ fn walk_links<'t>(
 }
 
 #[cycle(walk_expressions)]
-#[tactic(auto, using(crate::proofs::ExpressionMirror::mirrored_expressions))]
+#[tactic(auto, using(hdc_written::proofs::ExpressionMirror::mirrored_expressions))]
 fn walk_apply<'t>(
     alloc: Global,
     walk: &mut Walk<'t>,
@@ -146,7 +145,7 @@ fn walk_apply<'t>(
 }
 
 #[cycle(walk_expressions)]
-#[tactic(auto, using(crate::proofs::ExpressionMirror::mirrored_expressions))]
+#[tactic(auto, using(hdc_written::proofs::ExpressionMirror::mirrored_expressions))]
 fn walk_aexps<'t>(
     alloc: Global,
     walk: &mut Walk<'t>,
@@ -163,7 +162,7 @@ fn walk_aexps<'t>(
 }
 
 #[cycle(walk_expressions)]
-#[tactic(auto, using(crate::proofs::ExpressionMirror::mirrored_expressions))]
+#[tactic(auto, using(hdc_written::proofs::ExpressionMirror::mirrored_expressions))]
 fn walk_operand<'t>(
     alloc: Global,
     walk: &mut Walk<'t>,
@@ -178,7 +177,7 @@ fn walk_operand<'t>(
             walk.note_node(depth, *at);
             note_params(&mut walk.found, first, rest.as_slice())?;
             let size = walk.scope.size();
-            bind_params(&mut walk.scope, first, rest.as_slice())?;
+            bind_params(&mut walk.scope, undeclared(), first, rest.as_slice())?;
             walk_exp(alloc, walk, deeper(depth)?, body.get())?;
             walk.scope.leave(size);
             Ok(())
@@ -186,7 +185,7 @@ fn walk_operand<'t>(
         Operand::Let(at, block, _in_at, body) => {
             walk.note_node(depth, *at);
             let size = walk.scope.size();
-            bind_block(&mut walk.scope, block)?;
+            bind_block(&mut walk.scope, undeclared(), block)?;
             walk_block(alloc, walk, block)?;
             walk_exp(alloc, walk, deeper(depth)?, body.get())?;
             walk.scope.leave(size);
@@ -209,7 +208,7 @@ fn walk_operand<'t>(
 }
 
 #[cycle(walk_expressions)]
-#[tactic(auto, using(crate::proofs::ExpressionMirror::mirrored_expressions))]
+#[tactic(auto, using(hdc_written::proofs::ExpressionMirror::mirrored_expressions))]
 fn walk_aexp<'t>(
     alloc: Global,
     walk: &mut Walk<'t>,
@@ -255,7 +254,7 @@ fn walk_aexp<'t>(
 }
 
 #[cycle(walk_expressions)]
-#[tactic(auto, using(crate::proofs::ExpressionMirror::mirrored_expressions))]
+#[tactic(auto, using(hdc_written::proofs::ExpressionMirror::mirrored_expressions))]
 fn walk_list_exp<'t>(
     alloc: Global,
     walk: &mut Walk<'t>,
@@ -291,7 +290,7 @@ fn walk_list_exp<'t>(
 }
 
 #[cycle(walk_expressions)]
-#[tactic(auto, using(crate::proofs::ExpressionMirror::mirrored_expressions))]
+#[tactic(auto, using(hdc_written::proofs::ExpressionMirror::mirrored_expressions))]
 fn walk_comma_exps<'t>(
     alloc: Global,
     walk: &mut Walk<'t>,
@@ -308,7 +307,7 @@ fn walk_comma_exps<'t>(
 
 // A qualifier of this depth, whose names stay in scope.
 #[cycle(walk_expressions)]
-#[tactic(auto, using(crate::proofs::ExpressionMirror::mirrored_expressions))]
+#[tactic(auto, using(hdc_written::proofs::ExpressionMirror::mirrored_expressions))]
 fn walk_qual<'t>(
     alloc: Global,
     walk: &mut Walk<'t>,
@@ -322,7 +321,7 @@ fn walk_qual<'t>(
             walk.note_node(depth, first_of_pat(pat));
             note_pat(&mut walk.found, 1, pat)?;
             walk_exp(alloc, walk, depth, exp.get())?;
-            bind_pat(&mut walk.scope, pat)
+            bind_pat(&mut walk.scope, undeclared(), pat)
         }
         Qual::Condition(exp) => {
             walk.note_node(depth, first_of_exp(exp.get()));
@@ -330,14 +329,14 @@ fn walk_qual<'t>(
         }
         Qual::Local(at, block) => {
             walk.note_node(depth, *at);
-            bind_block(&mut walk.scope, block)?;
+            bind_block(&mut walk.scope, undeclared(), block)?;
             walk_block(alloc, walk, block)
         }
     }
 }
 
 #[cycle(walk_expressions)]
-#[tactic(auto, using(crate::proofs::ExpressionMirror::mirrored_expressions))]
+#[tactic(auto, using(hdc_written::proofs::ExpressionMirror::mirrored_expressions))]
 fn walk_comma_quals<'t>(
     alloc: Global,
     walk: &mut Walk<'t>,
@@ -355,7 +354,7 @@ fn walk_comma_quals<'t>(
 }
 
 #[cycle(walk_expressions)]
-#[tactic(auto, using(crate::proofs::ExpressionMirror::mirrored_expressions))]
+#[tactic(auto, using(hdc_written::proofs::ExpressionMirror::mirrored_expressions))]
 fn walk_alts<'t>(
     alloc: Global,
     walk: &mut Walk<'t>,
@@ -369,7 +368,7 @@ fn walk_alts<'t>(
 }
 
 #[cycle(walk_expressions)]
-#[tactic(auto, using(crate::proofs::ExpressionMirror::mirrored_expressions))]
+#[tactic(auto, using(hdc_written::proofs::ExpressionMirror::mirrored_expressions))]
 fn walk_next_alts<'t>(
     alloc: Global,
     walk: &mut Walk<'t>,
@@ -385,7 +384,7 @@ fn walk_next_alts<'t>(
 }
 
 #[cycle(walk_expressions)]
-#[tactic(auto, using(crate::proofs::ExpressionMirror::mirrored_expressions))]
+#[tactic(auto, using(hdc_written::proofs::ExpressionMirror::mirrored_expressions))]
 fn walk_alt<'t>(
     alloc: Global,
     walk: &mut Walk<'t>,
@@ -399,8 +398,8 @@ fn walk_alt<'t>(
         Alt::Arrow(pat, _arrow, exp, local) => {
             note_pat(&mut walk.found, 1, pat)?;
             let size = walk.scope.size();
-            bind_pat(&mut walk.scope, pat)?;
-            bind_where(&mut walk.scope, local)?;
+            bind_pat(&mut walk.scope, undeclared(), pat)?;
+            bind_where(&mut walk.scope, undeclared(), local)?;
             walk_where(alloc, walk, local)?;
             walk_exp(alloc, walk, depth, exp.get())?;
             walk.scope.leave(size);
@@ -409,9 +408,9 @@ fn walk_alt<'t>(
         Alt::Guarded(pat, first, rest, local) => {
             note_pat(&mut walk.found, 1, pat)?;
             let size = walk.scope.size();
-            bind_pat(&mut walk.scope, pat)?;
+            bind_pat(&mut walk.scope, undeclared(), pat)?;
             walk.note_node(depth, first.get().bar);
-            bind_where(&mut walk.scope, local)?;
+            bind_where(&mut walk.scope, undeclared(), local)?;
             walk_where(alloc, walk, local)?;
             let inner = deeper(depth)?;
             walk_arrow_guard(alloc, walk, inner, first.get())?;
@@ -423,7 +422,7 @@ fn walk_alt<'t>(
 }
 
 #[cycle(walk_expressions)]
-#[tactic(auto, using(crate::proofs::ExpressionMirror::mirrored_expressions))]
+#[tactic(auto, using(hdc_written::proofs::ExpressionMirror::mirrored_expressions))]
 fn walk_arrow_guard<'t>(
     alloc: Global,
     walk: &mut Walk<'t>,
@@ -437,7 +436,7 @@ fn walk_arrow_guard<'t>(
 }
 
 #[cycle(walk_expressions)]
-#[tactic(auto, using(crate::proofs::ExpressionMirror::mirrored_expressions))]
+#[tactic(auto, using(hdc_written::proofs::ExpressionMirror::mirrored_expressions))]
 fn walk_arrow_guards<'t>(
     alloc: Global,
     walk: &mut Walk<'t>,
@@ -453,7 +452,7 @@ fn walk_arrow_guards<'t>(
 }
 
 #[cycle(walk_expressions)]
-#[tactic(auto, using(crate::proofs::ExpressionMirror::mirrored_expressions))]
+#[tactic(auto, using(hdc_written::proofs::ExpressionMirror::mirrored_expressions))]
 fn walk_equal_guard<'t>(
     alloc: Global,
     walk: &mut Walk<'t>,
@@ -467,7 +466,7 @@ fn walk_equal_guard<'t>(
 }
 
 #[cycle(walk_expressions)]
-#[tactic(auto, using(crate::proofs::ExpressionMirror::mirrored_expressions))]
+#[tactic(auto, using(hdc_written::proofs::ExpressionMirror::mirrored_expressions))]
 fn walk_equal_guards<'t>(
     alloc: Global,
     walk: &mut Walk<'t>,
@@ -483,7 +482,7 @@ fn walk_equal_guards<'t>(
 }
 
 #[cycle(walk_expressions)]
-#[tactic(auto, using(crate::proofs::ExpressionMirror::mirrored_expressions))]
+#[tactic(auto, using(hdc_written::proofs::ExpressionMirror::mirrored_expressions))]
 fn walk_where<'t>(alloc: Global, walk: &mut Walk<'t>, part: &'t Where) -> Result<(), AllocError>
     ensures { OnOk result (walk.new ≡ spec.walk_declarations (mirror.where_of part.now) walk.old) }
 {
@@ -494,7 +493,7 @@ fn walk_where<'t>(alloc: Global, walk: &mut Walk<'t>, part: &'t Where) -> Result
 }
 
 #[cycle(walk_expressions)]
-#[tactic(auto, using(crate::proofs::ExpressionMirror::mirrored_expressions))]
+#[tactic(auto, using(hdc_written::proofs::ExpressionMirror::mirrored_expressions))]
 fn walk_block<'t>(alloc: Global, walk: &mut Walk<'t>, part: &'t Block) -> Result<(), AllocError>
     ensures { OnOk result (walk.new ≡ spec.walk_declarations (mirror.block_of part.now) walk.old) }
 {
@@ -503,7 +502,7 @@ fn walk_block<'t>(alloc: Global, walk: &mut Walk<'t>, part: &'t Block) -> Result
 }
 
 #[cycle(walk_expressions)]
-#[tactic(auto, using(crate::proofs::ExpressionMirror::mirrored_expressions))]
+#[tactic(auto, using(hdc_written::proofs::ExpressionMirror::mirrored_expressions))]
 fn walk_next_decls<'t>(
     alloc: Global,
     walk: &mut Walk<'t>,
@@ -518,7 +517,7 @@ fn walk_next_decls<'t>(
 }
 
 #[cycle(walk_expressions)]
-#[tactic(auto, using(crate::proofs::ExpressionMirror::mirrored_expressions))]
+#[tactic(auto, using(hdc_written::proofs::ExpressionMirror::mirrored_expressions))]
 fn walk_decl<'t>(alloc: Global, walk: &mut Walk<'t>, part: &'t Decl) -> Result<(), AllocError>
     ensures { OnOk result (walk.new ≡ spec.walk_declaration (mirror.decl_of part.now) walk.old) }
 {
@@ -528,7 +527,7 @@ fn walk_decl<'t>(alloc: Global, walk: &mut Walk<'t>, part: &'t Decl) -> Result<(
         Decl::Equation(head, rhs) => {
             note_head(&mut walk.found, head)?;
             let size = walk.scope.size();
-            bind_head(&mut walk.scope, head)?;
+            bind_head(&mut walk.scope, undeclared(), head)?;
             walk_rhs(alloc, walk, 1, rhs)?;
             walk.scope.leave(size);
             Ok(())
@@ -545,7 +544,7 @@ fn walk_decl<'t>(alloc: Global, walk: &mut Walk<'t>, part: &'t Decl) -> Result<(
 
 /// The sites of a right side of this depth; what is bound behind its `where` stays in scope.
 #[cycle(walk_expressions)]
-#[tactic(auto, using(crate::proofs::ExpressionMirror::mirrored_expressions))]
+#[tactic(auto, using(hdc_written::proofs::ExpressionMirror::mirrored_expressions))]
 pub(crate) fn walk_rhs<'t>(
     alloc: Global,
     walk: &mut Walk<'t>,
@@ -556,13 +555,13 @@ pub(crate) fn walk_rhs<'t>(
 {
     match part {
         Rhs::Equal(_equal, exp, local) => {
-            bind_where(&mut walk.scope, local)?;
+            bind_where(&mut walk.scope, undeclared(), local)?;
             walk_where(alloc, walk, local)?;
             walk_exp(alloc, walk, depth, exp.get())
         }
         Rhs::Guards(first, rest, local) => {
             walk.note_node(depth, first.get().bar);
-            bind_where(&mut walk.scope, local)?;
+            bind_where(&mut walk.scope, undeclared(), local)?;
             walk_where(alloc, walk, local)?;
             let inner = deeper(depth)?;
             walk_equal_guard(alloc, walk, inner, first.get())?;

@@ -34,7 +34,7 @@ use Rattle.hdc_parse.proofs.OneAnswer.{parsed_no_syntax, parsed_no_nesting, synt
 use Rattle.hdc_parse.proofs.OneSpelling.{one_spelling}
 use Rattle.hdc_names.specs.declared.check.TreesStop.{TreesStop}
 use Rattle.hdc_names.specs.declared.check.TreesStop.TheVariants as checking
-use Rattle.hdc_names.specs.Mirror.{tops_of}
+use Rattle.hdc_written.specs.Mirror.{tops_of}
 use Rattle.hdc_names.specs.Trees.{IsChecked}
 use Rattle.hdc_names.proofs.OneCheck.{checked_once}
 use Rattle.hdc_top.specs.Prelude.{HasTree, IsPrelude, stored, without}

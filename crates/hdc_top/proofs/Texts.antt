@@ -25,7 +25,7 @@ use Rattle.hdc_parse.specs.Answer.{IsAnswer}
 use Rattle.hdc_tree.specs.declared.program.Tree as program
 use Rattle.hdc_names.specs.declared.check.TreesStop.{TreesStop}
 use Rattle.hdc_names.specs.declared.check.TreesStop.TheVariants as checking
-use Rattle.hdc_names.specs.Mirror.{tops_of}
+use Rattle.hdc_written.specs.Mirror.{tops_of}
 use Rattle.hdc_names.specs.Trees.{IsChecked}
 use Rattle.hdc_top.specs.Prelude.{IsPrelude}
 use Rattle.hdc_top.specs.Stopped.{not_yet, refused_at, layout_stop, lexer_stop, parser_stop, trees_stop, end_place, HasLayout, HaveTrees, HasTrees, StopsLaid, syntax_at, nesting_at, trees_at, not_built, IsStopped, no_tokens, lexemes, layout, laid_tokens}

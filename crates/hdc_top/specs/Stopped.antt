@@ -25,7 +25,7 @@ use Rattle.hdc_parse.specs.declared.stop.ParseStop.TheVariants as parsing
 use Rattle.hdc_parse.specs.Exact.{IsParsed, IsSyntax, IsNesting}
 use Rattle.hdc_names.specs.declared.check.TreesStop.{TreesStop}
 use Rattle.hdc_names.specs.declared.check.TreesStop.TheVariants as checking
-use Rattle.hdc_names.specs.Mirror.{tops_of}
+use Rattle.hdc_written.specs.Mirror.{tops_of}
 use Rattle.hdc_names.specs.Trees.{IsChecked}
 use Rattle.hdc_top.specs.Prelude.{IsPrelude}
 pub use Rattle.hdc_top.specs.Layout.{end_place, HasLayout}

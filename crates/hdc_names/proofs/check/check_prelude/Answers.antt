@@ -1,6 +1,6 @@
 use Rattle.std.proofs.Common.{◌++◌, ap, ◌∙◌, append-nil}
 use Rattle.hdc_names.specs.Fixities.{standard}
-use Rattle.hdc_names.specs.Mirror.{tops_of}
+use Rattle.hdc_written.specs.Mirror.{tops_of}
 use Rattle.hdc_names.proofs.Checking.{walked_in}
 use Rattle.hdc_names.proofs.check.check_prelude.Goals as goal
 

@@ -1,5 +1,5 @@
 use Rattle.std.proofs.lemmas.Result.{err_from_is_err_and}
-use Rattle.hdc_names.specs.Mirror.{tops_of}
+use Rattle.hdc_written.specs.Mirror.{tops_of}
 use Rattle.hdc_names.proofs.Checking.{told, want_told}
 use Rattle.hdc_names.proofs.check.check_trees.Goals as goal
 

@@ -1,5 +1,5 @@
 use Rattle.std.proofs.Common.{◌≡◌, drop}
-use Rattle.hdc_names.specs.Mirror.{tops_behind}
+use Rattle.hdc_written.specs.Mirror.{tops_behind}
 use Rattle.hdc_names.specs.Walk.{walk_tops}
 use Rattle.hdc_names.proofs.check.walk_tops.Given as goal
 

@@ -1,6 +1,6 @@
 use Rattle.std.proofs.Common.{arith}
-use Rattle.hdc_names.specs.Mirror.{comma_qual_of}
-use Rattle.hdc_names.proofs.Numbered.{count_qualifiers-each}
+use Rattle.hdc_written.specs.Mirror.{comma_qual_of}
+use Rattle.hdc_written.proofs.Numbered.{count_qualifiers-each}
 use Rattle.hdc_names.proofs.depth.head_depth.Goals as goal
 
 pub returns-in-Some : goal.returns-in-Some

@@ -1,5 +1,5 @@
 use Rattle.std.proofs.Common.{sym, ap, ◌∙◌}
-use Rattle.hdc_names.specs.Mirror.{exp_of}
+use Rattle.hdc_written.specs.Mirror.{exp_of}
 use Rattle.hdc_names.specs.Walk.{turned}
 use Rattle.hdc_names.proofs.ChainNodes.{turned_last}
 use Rattle.hdc_names.proofs.joining.join.Goals as goal

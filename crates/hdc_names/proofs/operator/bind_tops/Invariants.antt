@@ -1,5 +1,5 @@
 use Rattle.std.proofs.Common.{◌≡◌, ◌≤◌, ◌++◌, length, drop}
-use Rattle.hdc_names.specs.Mirror.{tops_behind}
+use Rattle.hdc_written.specs.Mirror.{tops_behind}
 use Rattle.hdc_names.specs.Fixities.{each_own}
 use Rattle.hdc_names.proofs.operator.bind_tops.Given as goal
 

@@ -1,5 +1,5 @@
 use Rattle.std.proofs.Common.{◌≡◌, ◌≤◌, ◌++◌, length, drop}
-use Rattle.hdc_names.specs.Mirror.{tops_behind}
+use Rattle.hdc_written.specs.Mirror.{tops_behind}
 use Rattle.hdc_names.specs.Fixities.{all_declared}
 use Rattle.hdc_names.proofs.operator.declare_tops.Given as goal
 

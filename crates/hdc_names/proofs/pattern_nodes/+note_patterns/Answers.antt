@@ -1,11 +1,12 @@
 use Rattle.std.proofs.Common.{◌+◌, refl, sym, ap, ◌∙◌, arith}
 use Rattle.hdc_tree.specs.declared.pattern.ConsPat.{ConsPat, out-ConsPat}
-use Rattle.hdc_names.specs.Firsts.{first_of_pattern}
+use Rattle.hdc_written.specs.Firsts.{first_of_pattern}
 use Rattle.hdc_names.specs.Trees.{all_found}
-use Rattle.hdc_names.specs.Mirror.{each_pattern, apat_of, left_pat_of, comma_pat_of, cons_pat_of}
+use Rattle.hdc_written.specs.Mirror.{each_pattern, apat_of, left_pat_of, comma_pat_of, cons_pat_of}
 use Rattle.hdc_names.specs.Sites.{follow, each_pattern_nodes, pattern_nodes}
-use Rattle.hdc_names.proofs.PatternMirror.{comma_pat_parts, cons_pat_parts}
-use Rattle.hdc_names.proofs.Loops.{next_found, rest_slice, next_cons}
+use Rattle.hdc_written.proofs.PatternMirror.{comma_pat_parts, cons_pat_parts}
+use Rattle.hdc_written.proofs.Loops.{rest_slice}
+use Rattle.hdc_names.proofs.Loops.{next_found, next_cons}
 use Rattle.hdc_names.proofs.pattern_nodes.+note_patterns.Goals as goal
 
 pub note_apats-loop-part-preserved : goal.note_apats-loop-part-preserved

@@ -1,5 +1,5 @@
 use Rattle.std.proofs.Common.{◌≡◌, drop}
-use Rattle.hdc_names.specs.Mirror.{each_pattern, apat_of, comma_pat_of, cons_pat_of}
+use Rattle.hdc_written.specs.Mirror.{each_pattern, apat_of, comma_pat_of, cons_pat_of}
 use Rattle.hdc_names.specs.Sites.{each_pattern_nodes, cons_nodes}
 use Rattle.hdc_names.specs.Trees.{all_found}
 use Rattle.hdc_names.proofs.pattern_nodes.+note_patterns.Given as goal

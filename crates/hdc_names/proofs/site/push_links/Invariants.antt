@@ -1,5 +1,5 @@
 use Rattle.std.proofs.Common.{◌≡◌, ◌++◌, drop}
-use Rattle.hdc_names.specs.Mirror.{each_link, link_of}
+use Rattle.hdc_written.specs.Mirror.{each_link, link_of}
 use Rattle.hdc_names.specs.Sites.{rest_of}
 use Rattle.hdc_names.proofs.site.push_links.Given as goal
 

@@ -1,11 +1,12 @@
 use Rattle.std.proofs.Common.{◌+◌, refl, sym, ap, ◌∙◌, arith}
 use Rattle.hdc_tree.specs.declared.type_tree.ArrowType.{ArrowType, out-ArrowType}
-use Rattle.hdc_names.specs.Firsts.{first_of_type}
+use Rattle.hdc_written.specs.Firsts.{first_of_type}
 use Rattle.hdc_names.specs.Trees.{all_found}
-use Rattle.hdc_names.specs.TypeMirror.{each_type, atype_of, btype_of, comma_type_of, arrow_type_of}
+use Rattle.hdc_written.specs.TypeMirror.{each_type, atype_of, btype_of, comma_type_of, arrow_type_of}
 use Rattle.hdc_names.specs.Sites.{types_follow, each_type_nodes, type_nodes}
-use Rattle.hdc_names.proofs.TypeMirror.{comma_type_parts, arrow_type_parts}
-use Rattle.hdc_names.proofs.Loops.{next_found, rest_slice, next_arrow}
+use Rattle.hdc_written.proofs.TypeMirror.{comma_type_parts, arrow_type_parts}
+use Rattle.hdc_written.proofs.Loops.{rest_slice}
+use Rattle.hdc_names.proofs.Loops.{next_found, next_arrow}
 use Rattle.hdc_names.proofs.type_nodes.+note_types.Goals as goal
 
 pub note_atypes-loop-part-preserved : goal.note_atypes-loop-part-preserved

@@ -1,5 +1,5 @@
 use Rattle.std.proofs.Common.{◌≡◌, drop}
-use Rattle.hdc_names.specs.TypeMirror.{each_type, atype_of, comma_type_of, arrow_type_of}
+use Rattle.hdc_written.specs.TypeMirror.{each_type, atype_of, comma_type_of, arrow_type_of}
 use Rattle.hdc_names.specs.Sites.{each_type_nodes, arrow_nodes}
 use Rattle.hdc_names.specs.Trees.{all_found}
 use Rattle.hdc_names.proofs.type_nodes.+note_types.Given as goal

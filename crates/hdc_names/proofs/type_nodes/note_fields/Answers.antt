@@ -1,5 +1,5 @@
 use Rattle.std.proofs.Common.{refl, arith}
-use Rattle.hdc_names.specs.TypeMirror.{atype_of}
+use Rattle.hdc_written.specs.TypeMirror.{atype_of}
 use Rattle.hdc_names.specs.Sites.{field_nodes, type_nodes}
 use Rattle.hdc_names.proofs.Loops.{next_found}
 use Rattle.hdc_names.proofs.type_nodes.note_fields.Goals as goal

@@ -1,6 +1,6 @@
 use Rattle.hdc_tree.specs.declared.expression.Exp.{out-Exp}
-use Rattle.hdc_names.specs.Mirror.{exp_of, operand_of}
-use Rattle.hdc_names.proofs.ExpressionMirror.{exp_parts}
+use Rattle.hdc_written.specs.Mirror.{exp_of, operand_of}
+use Rattle.hdc_written.proofs.ExpressionMirror.{exp_parts}
 use Rattle.hdc_names.proofs.WalkedChain.{chain_walked}
 use Rattle.hdc_names.proofs.walk.+walk_expressions.Goals as goal
 

@@ -1,5 +1,5 @@
 use Rattle.std.proofs.Common.{◌≡◌, drop}
-use Rattle.hdc_names.specs.Mirror.{aexp_of, arrow_guard_of, comma_exp_of, comma_qual_of, each_alternative, each_declaration, each_expression, each_guard, each_link, each_operand, each_qualifier, equal_guard_of, link_of, next_alt_of, next_decl_of}
+use Rattle.hdc_written.specs.Mirror.{aexp_of, arrow_guard_of, comma_exp_of, comma_qual_of, each_alternative, each_declaration, each_expression, each_guard, each_link, each_operand, each_qualifier, equal_guard_of, link_of, next_alt_of, next_decl_of}
 use Rattle.hdc_names.specs.Walk.{walk_alternatives, walk_declarations, walk_expressions, walk_guards, walk_links, walk_operands, walk_qualifiers}
 use Rattle.hdc_names.proofs.walk.+walk_expressions.Given as goal
 

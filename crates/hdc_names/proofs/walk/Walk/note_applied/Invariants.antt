@@ -1,5 +1,5 @@
 use Rattle.std.proofs.Common.{◌≡◌, drop}
-use Rattle.hdc_names.specs.Mirror.{each_operand, aexp_of}
+use Rattle.hdc_written.specs.Mirror.{each_operand, aexp_of}
 use Rattle.hdc_names.specs.Sites.{applied_nodes}
 use Rattle.hdc_names.specs.Walk.{note_all}
 use Rattle.hdc_names.proofs.walk.Walk.note_applied.Given as goal

@@ -1,0 +1,2 @@
+//! Local values that need themselves.
+#![tactic(auto)]

@@ -1,0 +1,4 @@
+pub mod Listing
+pub mod Loops
+pub mod Taking
+pub mod Scanning

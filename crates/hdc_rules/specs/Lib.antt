@@ -1,0 +1,6 @@
+pub mod Known
+pub mod Names
+pub mod Types
+pub mod Bindings
+pub mod Uses
+pub mod Scan

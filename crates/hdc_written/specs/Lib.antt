@@ -1,0 +1,11 @@
+pub mod Stacks
+pub mod Scopes
+pub mod Links
+pub mod WrittenTypes
+pub mod Written
+pub mod Firsts
+pub mod TypeMirror
+pub mod Mirror
+pub mod Breaches
+pub mod Events
+pub mod Recorded
