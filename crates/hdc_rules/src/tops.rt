@@ -11,12 +11,12 @@ use std::alloc::{AllocError, Global};
 
 /// The breaches in a text, but for those of its right sides.
 pub(crate) fn note_tops(
-    _alloc: Global,
-    _found: &mut Found,
-    _types: &Scope<usize>,
-    _tree: &Tree,
+    alloc: Global,
+    found: &mut Found,
+    types: &Scope<usize>,
+    tree: &Tree,
 ) -> Result<(), AllocError>
-    ensures { OnOk result (_found.new ≡ all_noted _found.old (spec.tops_breaches _types.now (mirror.tops_of _tree.now))) }
+    ensures { OnOk result (found.new ≡ all_noted found.old (spec.tops_breaches types.now (mirror.tops_of tree.now))) }
 {
     Err(AllocError)
 }
