@@ -1,7 +1,5 @@
 -- One turn of a loop over a list.
-use Rattle.std.proofs.Common.{◌≡◌, ℕ, suc, Bool, ◌+◌, ◌-◌, ◌<◌, List, ◌∷◌, ◌++◌, length, take, drop, get_or, sym, ap, ◌∙◌}
-use Rattle.std.proofs.Math.Seq.{take-length}
-use Rattle.std.proofs.lemmas.List.{drop_more, length-drop}
+use Rattle.std.proofs.Common.{◌≡◌, ℕ, suc, Bool, ◌+◌, ◌<◌, List, ◌∷◌, ◌++◌, length, drop, get_or, sym, ap, ◌∙◌}
 use Rattle.hdc_base.specs.declared.place.At.{At}
 use Rattle.hdc_tree.specs.declared.pattern.ConsPat.{ConsPat}
 use Rattle.hdc_tree.specs.declared.type_tree.ArrowType.{ArrowType}
@@ -11,9 +9,8 @@ use Rattle.hdc_written.specs.TypeMirror.{each_type, arrow_type_of}
 use Rattle.hdc_written.specs.Firsts.{first_of_pattern, first_of_type}
 use Rattle.hdc_names.specs.Sites.{Site, joined, below, follow, types_follow, pattern_nodes, cons_nodes, type_nodes, arrow_nodes}
 use Rattle.hdc_names.specs.Trees.{all_found}
-use Rattle.hdc_written.specs.Written.{Pattern, variables, all_variables, Declaration, bound, all_bound}
-use Rattle.hdc_written.specs.Mirror.{each_pattern, each_declaration, cons_pat_of}
-use Rattle.hdc_names.specs.Fixities.{Scope, locally}
+use Rattle.hdc_written.specs.Written.{Pattern}
+use Rattle.hdc_written.specs.Mirror.{each_pattern, cons_pat_of}
 use Rattle.hdc_names.proofs.Noting.{found_joined}
 use Rattle.hdc_written.proofs.Loops.{stepped}
 

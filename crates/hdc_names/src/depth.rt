@@ -2,6 +2,7 @@
 
 ghost use Rattle.std.specs.Prelude.{◌≡◌, ◌+◌, suc, IfOk};
 ghost use Rattle.hdc_written.specs.Mirror as mirror;
+ghost use Rattle.hdc_written.specs.Written as written;
 ghost use Rattle.hdc_names.specs.Sites as spec;
 
 use hdc_tree::{Aexp, CommaQual};
@@ -20,7 +21,7 @@ pub(crate) fn deeper(depth: u64) -> Result<u64, AllocError>
 /// The depth of a function below an application of this depth to these arguments; want of memory where 64 bits
 /// do not hold it.
 pub(crate) fn function_depth(depth: u64, args: &[Aexp]) -> Result<u64, AllocError>
-    ensures { IfOk result (λ d. d ≡ spec.count_operands (mirror.each_operand mirror.aexp_of args.now) + depth) }
+    ensures { IfOk result (λ d. d ≡ written.count_operands (mirror.each_operand mirror.aexp_of args.now) + depth) }
 {
     match depth.checked_add(args.len() as u64) {
         Some(inner) => Ok(inner),
@@ -31,7 +32,7 @@ pub(crate) fn function_depth(depth: u64, args: &[Aexp]) -> Result<u64, AllocErro
 /// The depth of the head of a comprehension of this depth, with these qualifiers behind the first one; want of
 /// memory where 64 bits do not hold it.
 pub(crate) fn head_depth(depth: u64, rest: &[CommaQual]) -> Result<u64, AllocError>
-    ensures { IfOk result (λ d. d ≡ suc (suc (spec.count_qualifiers (mirror.each_qualifier mirror.comma_qual_of rest.now)) + depth)) }
+    ensures { IfOk result (λ d. d ≡ suc (suc (written.count_qualifiers (mirror.each_qualifier mirror.comma_qual_of rest.now)) + depth)) }
 {
     let inner = deeper(deeper(depth)?)?;
     match inner.checked_add(rest.len() as u64) {
