@@ -7,8 +7,8 @@ ghost use Rattle.hdc_names.specs.Chain.{Answers, Reads, IsRead};
 use crate::fixity::{Fixity, Taker, between, sign};
 use crate::waiting::Waiting;
 use hdc_base::At;
-use sqlite_items::Items;
 use hdc_written::Stack;
+use sqlite_items::Items;
 use std::alloc::{AllocError, AllocFailed, Global};
 
 /// An operator, and the operand behind it, with a sign or without one; `at` is the place of the last operator

@@ -9,8 +9,8 @@ use crate::depth::deeper;
 use crate::found::Found;
 use hdc_base::At;
 use hdc_tree::Expression;
-use sqlite_items::Items;
 use hdc_written::{Stack, first_of_exp, operand_at, operator_before, start_at};
+use sqlite_items::Items;
 use std::alloc::{AllocError, Global};
 
 /// A tree whose steps are still to come, which begins at a place.

@@ -8,11 +8,9 @@ ghost use Rattle.hdc_written.specs.Scopes.{standing_for};
 ghost use Rattle.hdc_names.specs.Sites as sites;
 
 use crate::fixity::Fixity;
-use hdc_written::{Scope, head_name, op_name};
 use hdc_base::At;
-use hdc_tree::{
-    Associativity, Fixity as FixityDeclaration, Name, NextTop, Op, Top, Tree,
-};
+use hdc_tree::{Associativity, Fixity as FixityDeclaration, Name, NextTop, Op, Top, Tree};
+use hdc_written::{Scope, head_name, op_name};
 use std::alloc::{AllocError, Global};
 
 /// An operator without a declaration, and so one that is bound locally, is infixl 9.

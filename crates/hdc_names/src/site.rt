@@ -10,8 +10,8 @@ use crate::fixity::Fixity;
 use crate::operator::{fixity_in, place_of_op};
 use hdc_base::At;
 use hdc_tree::{Expression, Link, Op, Sign};
-use sqlite_items::Items;
 use hdc_written::Scope;
+use sqlite_items::Items;
 use std::alloc::{AllocError, Global};
 
 /// The operators of the chain of an expression, and the operands behind them.

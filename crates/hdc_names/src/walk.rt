@@ -9,8 +9,8 @@ use crate::chain::{ChainStop, steps};
 use crate::depth::{deeper, depth_at, function_depth, head_depth};
 use crate::fixity::Fixity;
 use crate::found::Found;
-use crate::operator::undeclared;
 use crate::joining::join;
+use crate::operator::undeclared;
 use crate::pattern_nodes::{note_head, note_params, note_pat};
 use crate::site::{is_signed, left_fault, operators_of, place_of, right_fault};
 use crate::type_nodes::note_type;
@@ -19,7 +19,10 @@ use hdc_tree::{
     Aexp, Alt, Alts, Apply, ArrowGuard, Block, CommaExp, CommaQual, Decl, EqualGuard, Expression,
     Link, ListExp, NextAlt, NextDecl, Op, Operand, Qual, Rhs, Where,
 };
-use hdc_written::{Scope, bind_block, bind_head, bind_params, bind_pat, bind_where, first_of_aexp, first_of_exp, first_of_op, first_of_pat};
+use hdc_written::{
+    Scope, bind_block, bind_head, bind_params, bind_pat, bind_where, first_of_aexp, first_of_exp,
+    first_of_op, first_of_pat,
+};
 use std::alloc::{AllocError, Global};
 
 /// What is in scope, and what was found so far.
