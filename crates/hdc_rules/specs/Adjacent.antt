@@ -6,6 +6,7 @@ use Rattle.hdc_tree.specs.declared.program.Top.{Top}
 use Rattle.hdc_tree.specs.declared.program.Top.TheVariants as top
 use Rattle.hdc_written.specs.declared.breach.Breach.{Breach}
 use Rattle.hdc_written.specs.Written.{variables, count_patterns, Declaration, empty, signature, equation, binding}
+use Rattle.hdc_written.specs.WrittenTypes.{WrittenType}
 use Rattle.hdc_written.specs.Mirror.{head_name, head_patterns, first_of_head}
 use Rattle.hdc_rules.specs.declared.equations.Function.{Function}
 use Rattle.hdc_rules.specs.Known.{Counted}
@@ -55,10 +56,13 @@ signed_by (signature xs t) = xs
 signed_by (equation at x ps r) = []
 signed_by (binding p r) = []
 
--- the type of a local signature is broken, or has variables
+-- a local type is broken, or has variables
+abbrev pub local_type_breaches : Counted → WrittenType → List Breach
+local_type_breaches types t = type_breaches types t ++ each_breach 12 (type_variables t)
+
 abbrev pub signature_breaches : Counted → Declaration → List Breach
 signature_breaches types empty = []
-signature_breaches types (signature xs t) = type_breaches types t ++ each_breach 12 (type_variables t)
+signature_breaches types (signature xs t) = local_type_breaches types t
 signature_breaches types (equation at x ps r) = []
 signature_breaches types (binding p r) = []
 
