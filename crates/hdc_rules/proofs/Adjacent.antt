@@ -1,12 +1,11 @@
 -- Bindings and signatures one by one: what a list of them adds is what the first one adds, and what the others add behind it.
-use Rattle.std.proofs.Common.{◌≡◌, ℕ, zero, suc, ◌+◌, ◌<◌, ◌≤◌, Bool, true, false, List, [], ◌∷◌, ◌++◌, length, drop, get_or, Option, Some, None, if◌then◌else◌, refl, sym, ap, ◌∙◌, append_assoc, arith}
+use Rattle.std.proofs.Common.{◌≡◌, ℕ, zero, suc, ◌<◌, ◌≤◌, Bool, true, false, List, [], ◌∷◌, ◌++◌, length, Option, Some, None, if◌then◌else◌, refl, sym, ap, append_assoc, arith}
 use Rattle.hdc_tree.specs.declared.name.Name.{Name}
 use Rattle.hdc_tree.specs.declared.program.Top.{Top}
 use Rattle.hdc_tree.specs.declared.program.Top.TheVariants as top
 use Rattle.hdc_written.specs.declared.breach.Breach.{Breach}
 use Rattle.hdc_written.specs.Written.{Pattern, count_patterns, Declaration, empty, signature, equation, binding, Declarations, declaration}
 use Rattle.hdc_written.specs.Mirror.{each_pattern, head_name, head_patterns, first_of_head}
-use Rattle.hdc_written.proofs.Loops.{stepped}
 use Rattle.hdc_rules.specs.Known.{Counted}
 use Rattle.hdc_rules.specs.Names.{each_breach}
 use Rattle.hdc_rules.specs.Types.{type_breaches, type_variables}
@@ -35,18 +34,6 @@ opened_some t (suc n) lt = refl
 pub count_patterns_each : {A : Type 0} (f : A → Pattern) (xs : List A) → count_patterns (each_pattern f xs) ≡ length xs
 count_patterns_each f [] = refl
 count_patterns_each f (x ∷ xs) = ap (λ (n : ℕ). suc n) (count_patterns_each f xs)
-
--- ---- one more item adds what it has to a list, where what comes before decides what is added behind
-
-pub next_added_behind : {A S X : Type 0} (g : S → List A → List X) (h : S → A → List X) (step : S → A → S) (split : (s : S) (x : A) (xs : List A) → g s (x ∷ xs) ≡ h s x ++ g (step s x) xs) (parts : List A) (i : ℕ) (x : A) (s0 s t : S) (start now next : List X) → start ++ g s0 parts ≡ now ++ g s (drop i parts) → i < length parts → x ≡ get_or parts i x → t ≡ step s x → next ≡ now ++ h s x → start ++ g s0 parts ≡ next ++ g t (drop (i + 1) parts)
-next_added_behind g h step split parts i x s0 s t start now next so_far lt is steps e =
-    let rest = drop (i + 1) parts in
-    so_far
-    ∙ ap (λ z. now ++ g s z) (stepped parts i x lt is)
-    ∙ ap (λ z. now ++ z) (split s x rest)
-    ∙ sym (append_assoc now (h s x) (g (step s x) rest))
-    ∙ ap (λ z. (now ++ h s x) ++ g z rest) (sym steps)
-    ∙ ap (λ z. z ++ g t rest) (sym e)
 
 -- ---- blocks
 
