@@ -7,14 +7,15 @@ ghost use Rattle.hdc_written.specs.TypeMirror.{type_exp_of};
 ghost use Rattle.hdc_rules.specs.Adjacent as adjacent;
 ghost use Rattle.hdc_rules.specs.Bindings as spec;
 
-use crate::equations::Going;
+use crate::equations::OpenFunction;
 use crate::listed::{note_bound, note_each};
 use crate::names::Names;
 use crate::pattern_variables::add_pat;
+use crate::signed::add_signed;
 use crate::type_variables::add_type;
 use crate::types::note_type;
-use hdc_tree::{Block, CommaVar, Decl, NextDecl, TypeExp, Var};
-use hdc_written::{Found, Scope, var_name};
+use hdc_tree::{Block, Decl, NextDecl, TypeExp};
+use hdc_written::{Found, Scope};
 use std::alloc::{AllocError, Global};
 
 /// What is bound in the block is bound once, and signed once at most; what is signed is bound; the equations of a
@@ -41,7 +42,7 @@ fn bindings_of(alloc: Global, block: &Block) -> Result<Names<'_>, AllocError>
     ensures { IfOk result (λ names. names ≡ spec.bindings_of None (mirror.block_of block.now)) }
 {
     let mut names = Names::new(alloc);
-    let mut going = Going::nothing();
+    let mut going = OpenFunction::none();
     add_bound(&mut names, &mut going, block.first.get())?;
     add_next_bound(&mut names, &mut going, block.rest.as_slice())?;
     Ok(names)
@@ -50,7 +51,7 @@ fn bindings_of(alloc: Global, block: &Block) -> Result<Names<'_>, AllocError>
 #[tactic(auto, using(crate::proofs::Listing::in_order, hdc_written::proofs::ExpressionMirror::mirrored_expressions))]
 fn add_next_bound<'t>(
     names: &mut Names<'t>,
-    going: &mut Going<'t>,
+    going: &mut OpenFunction<'t>,
     parts: &'t [NextDecl],
 ) -> Result<(), AllocError>
     ensures { OnOk result (names.new ≡ names.old ++ spec.bindings_of going.old (mirror.each_declaration mirror.next_decl_of parts.now)) }
@@ -64,7 +65,7 @@ fn add_next_bound<'t>(
 #[tactic(auto, using(crate::proofs::Listing::in_order))]
 fn add_bound<'t>(
     names: &mut Names<'t>,
-    going: &mut Going<'t>,
+    going: &mut OpenFunction<'t>,
     part: &'t Decl,
 ) -> Result<(), AllocError>
     ensures added { OnOk result (names.new ≡ names.old ++ adjacent.bound_at going.old (mirror.decl_of part.now)) }
@@ -73,12 +74,12 @@ fn add_bound<'t>(
     match part {
         Decl::Empty => Ok(()),
         Decl::Signature(_var, _rest, _at, _signature) => {
-            going.end();
+            going.close();
             Ok(())
         }
         Decl::Equation(head, _rhs) => going.add_equation(names, head),
         Decl::Binding(pat, _rhs) => {
-            going.end();
+            going.close();
             add_pat(names, pat)
         }
     }
@@ -89,13 +90,13 @@ fn add_bound<'t>(
 fn note_uneven(found: &mut Found, block: &Block)
     ensures { found.new ≡ all_noted found.old (spec.uneven_equations None (mirror.block_of block.now)) }
 {
-    let mut going = Going::nothing();
+    let mut going = OpenFunction::none();
     note_uneven_at(found, &mut going, block.first.get());
     note_next_uneven(found, &mut going, block.rest.as_slice());
 }
 
 #[tactic(auto, using(hdc_written::proofs::FirstBreach::in_order, hdc_written::proofs::ExpressionMirror::mirrored_expressions))]
-fn note_next_uneven<'t>(found: &mut Found, going: &mut Going<'t>, parts: &'t [NextDecl])
+fn note_next_uneven<'t>(found: &mut Found, going: &mut OpenFunction<'t>, parts: &'t [NextDecl])
     ensures { found.new ≡ all_noted found.old (spec.uneven_equations going.old (mirror.each_declaration mirror.next_decl_of parts.now)) }
 {
     for part in parts {
@@ -103,15 +104,15 @@ fn note_next_uneven<'t>(found: &mut Found, going: &mut Going<'t>, parts: &'t [Ne
     }
 }
 
-fn note_uneven_at<'t>(found: &mut Found, going: &mut Going<'t>, part: &'t Decl)
+fn note_uneven_at<'t>(found: &mut Found, going: &mut OpenFunction<'t>, part: &'t Decl)
     ensures noted { found.new ≡ all_noted found.old (adjacent.uneven_at going.old (mirror.decl_of part.now)) }
     ensures behind { going.new ≡ adjacent.going_behind going.old (mirror.decl_of part.now) }
 {
     match part {
         Decl::Empty => {}
-        Decl::Signature(_var, _rest, _at, _signature) => going.end(),
+        Decl::Signature(_var, _rest, _at, _signature) => going.close(),
         Decl::Equation(head, _rhs) => going.note_equation(found, head),
-        Decl::Binding(_pat, _rhs) => going.end(),
+        Decl::Binding(_pat, _rhs) => going.close(),
     }
 }
 
@@ -146,29 +147,6 @@ fn add_signed_by<'t>(names: &mut Names<'t>, part: &'t Decl) -> Result<(), AllocE
         Decl::Equation(_head, _rhs) => Ok(()),
         Decl::Binding(_pat, _rhs) => Ok(()),
     }
-}
-
-/// The names of a signature.
-#[tactic(auto, using(crate::proofs::Listing::in_order))]
-pub(crate) fn add_signed<'t>(
-    names: &mut Names<'t>,
-    first: &'t Var,
-    rest: &'t [CommaVar],
-) -> Result<(), AllocError>
-    ensures { OnOk result (names.new ≡ names.old ++ mirror.signed_names first.now rest.now) }
-{
-    names.push(var_name(first))?;
-    add_next_vars(names, rest)
-}
-
-#[tactic(auto, using(crate::proofs::Listing::in_order))]
-fn add_next_vars<'t>(names: &mut Names<'t>, parts: &'t [CommaVar]) -> Result<(), AllocError>
-    ensures { OnOk result (names.new ≡ names.old ++ mirror.names_behind parts.now) }
-{
-    for part in parts {
-        names.push(var_name(&part.var))?;
-    }
-    Ok(())
 }
 
 // The types of the signatures are known, and have no variables.

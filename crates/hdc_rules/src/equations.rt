@@ -16,7 +16,7 @@ use std::marker::Model;
 
 /// The function whose equations may go on, if there is one.
 #[derive(Drop)]
-pub(crate) struct Going<'t> {
+pub(crate) struct OpenFunction<'t> {
     function: Option<Function<'t>>,
 }
 
@@ -27,7 +27,7 @@ struct Function<'t> {
     count: usize,
 }
 
-impl<'t> Model for Going<'t> {
+impl<'t> Model for OpenFunction<'t> {
     ghost use Rattle.std.specs.Prelude.{Option};
     ghost use Rattle.hdc_rules.specs.Adjacent.{open_of};
     ghost use Rattle.hdc_rules.specs.Bindings.{Open};
@@ -37,16 +37,16 @@ impl<'t> Model for Going<'t> {
     ghost view = { λ g. open_of g.function };
 }
 
-impl<'t> Going<'t> {
+impl<'t> OpenFunction<'t> {
     /// No equations may go on.
-    pub(crate) fn nothing() -> Going<'t>
+    pub(crate) fn none() -> OpenFunction<'t>
         ensures { result ≡ None }
     {
-        Going { function: None }
+        OpenFunction { function: None }
     }
 
     /// No equations may go on any longer.
-    pub(crate) fn end(&mut self)
+    pub(crate) fn close(&mut self)
         ensures { self.new ≡ None }
     {
         self.function = None;

@@ -6,10 +6,10 @@ ghost use Rattle.hdc_written.specs.Mirror as mirror;
 ghost use Rattle.hdc_rules.specs.Adjacent as adjacent;
 ghost use Rattle.hdc_rules.specs.Bindings as spec;
 
-use crate::block::add_signed;
-use crate::equations::Going;
+use crate::equations::OpenFunction;
 use crate::listed::{note_bound, note_missing, note_repeated};
 use crate::names::Names;
+use crate::signed::add_signed;
 use crate::types::{note_data, note_synonym, note_type};
 use hdc_tree::{BarConstr, CommaVarOp, Constr, NextTop, Top, Tree, VarOp};
 use hdc_written::{Found, Scope, op_name};
@@ -45,7 +45,7 @@ fn bindings_of(alloc: Global, tree: &Tree) -> Result<Names<'_>, AllocError>
     ensures { IfOk result (λ names. names ≡ spec.top_bindings None (mirror.tops_of tree.now)) }
 {
     let mut names = Names::new(alloc);
-    let mut going = Going::nothing();
+    let mut going = OpenFunction::none();
     add_bound(&mut names, &mut going, tree.first.get())?;
     add_next_bound(&mut names, &mut going, tree.rest.as_slice())?;
     Ok(names)
@@ -54,7 +54,7 @@ fn bindings_of(alloc: Global, tree: &Tree) -> Result<Names<'_>, AllocError>
 #[tactic(auto, using(crate::proofs::Listing::in_order))]
 fn add_next_bound<'t>(
     names: &mut Names<'t>,
-    going: &mut Going<'t>,
+    going: &mut OpenFunction<'t>,
     parts: &'t [NextTop],
 ) -> Result<(), AllocError>
     ensures { OnOk result (names.new ≡ names.old ++ spec.top_bindings going.old (mirror.tops_behind parts.now)) }
@@ -68,7 +68,7 @@ fn add_next_bound<'t>(
 #[tactic(auto, using(crate::proofs::Listing::in_order))]
 fn add_bound<'t>(
     names: &mut Names<'t>,
-    going: &mut Going<'t>,
+    going: &mut OpenFunction<'t>,
     part: &'t Top,
 ) -> Result<(), AllocError>
     ensures added { OnOk result (names.new ≡ names.old ++ adjacent.bound_at_top going.old part.now) }
@@ -78,19 +78,19 @@ fn add_bound<'t>(
         Top::Empty => Ok(()),
         Top::Equation(head, _rhs) => going.add_equation(names, head),
         Top::Data(_data) => {
-            going.end();
+            going.close();
             Ok(())
         }
         Top::Synonym(_synonym) => {
-            going.end();
+            going.close();
             Ok(())
         }
         Top::Fixity(_fixity) => {
-            going.end();
+            going.close();
             Ok(())
         }
         Top::Signature(_first, _rest, _at, _signature) => {
-            going.end();
+            going.close();
             Ok(())
         }
     }
@@ -101,13 +101,13 @@ fn add_bound<'t>(
 fn note_uneven(found: &mut Found, tree: &Tree)
     ensures { found.new ≡ all_noted found.old (spec.uneven_tops None (mirror.tops_of tree.now)) }
 {
-    let mut going = Going::nothing();
+    let mut going = OpenFunction::none();
     note_uneven_at(found, &mut going, tree.first.get());
     note_next_uneven(found, &mut going, tree.rest.as_slice());
 }
 
 #[tactic(auto, using(hdc_written::proofs::FirstBreach::in_order))]
-fn note_next_uneven<'t>(found: &mut Found, going: &mut Going<'t>, parts: &'t [NextTop])
+fn note_next_uneven<'t>(found: &mut Found, going: &mut OpenFunction<'t>, parts: &'t [NextTop])
     ensures { found.new ≡ all_noted found.old (spec.uneven_tops going.old (mirror.tops_behind parts.now)) }
 {
     for part in parts {
@@ -115,17 +115,17 @@ fn note_next_uneven<'t>(found: &mut Found, going: &mut Going<'t>, parts: &'t [Ne
     }
 }
 
-fn note_uneven_at<'t>(found: &mut Found, going: &mut Going<'t>, part: &'t Top)
+fn note_uneven_at<'t>(found: &mut Found, going: &mut OpenFunction<'t>, part: &'t Top)
     ensures noted { found.new ≡ all_noted found.old (adjacent.uneven_at_top going.old part.now) }
     ensures behind { going.new ≡ adjacent.going_behind_top going.old part.now }
 {
     match part {
         Top::Empty => {}
         Top::Equation(head, _rhs) => going.note_equation(found, head),
-        Top::Data(_data) => going.end(),
-        Top::Synonym(_synonym) => going.end(),
-        Top::Fixity(_fixity) => going.end(),
-        Top::Signature(_first, _rest, _at, _signature) => going.end(),
+        Top::Data(_data) => going.close(),
+        Top::Synonym(_synonym) => going.close(),
+        Top::Fixity(_fixity) => going.close(),
+        Top::Signature(_first, _rest, _at, _signature) => going.close(),
     }
 }
 
