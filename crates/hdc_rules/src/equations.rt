@@ -131,6 +131,7 @@ fn head_params(head: &Head) -> usize
     match head {
         Head::Prefix(_var, params) => params.as_slice().len(),
         Head::Infix(_left, _op, _right) => 2,
-        Head::Paren(_open_at, _left, _op, _right, _close_at, _first, rest) => rest.as_slice().len() + 3,
+        Head::Paren(_open_at, _left, _op, _right, _close_at, _first, rest) => rest.as_slice().len()
+            + 3,
     }
 }

@@ -189,7 +189,11 @@ impl<'t> Declared<'t> {
             Top::Equation(_head, _rhs) => Ok(()),
             Top::Data(declared) => {
                 self.types.push(&declared.name)?;
-                add_constructors(&mut self.constructors, &declared.first, declared.rest.as_slice())
+                add_constructors(
+                    &mut self.constructors,
+                    &declared.first,
+                    declared.rest.as_slice(),
+                )
             }
             Top::Synonym(synonym) => self.types.push(&synonym.name),
             Top::Fixity(fixity) => {
