@@ -2,3 +2,4 @@ pub mod Listing
 pub mod Loops
 pub mod Taking
 pub mod Scanning
+pub mod Checking

@@ -1,5 +1,5 @@
 -- The events of a right side lead to what is broken in it, and leave what is in scope as it was.
-use Rattle.std.proofs.Common.{◌≡◌, ℕ, ◌-◌, Bool, true, false, ◌||◌, List, [], ◌∷◌, ◌++◌, length, take, drop, is_some, Option, Some, None, if◌then◌else◌, codes, refl, sym, ap, ◌∙◌, append_assoc}
+use Rattle.std.proofs.Common.{◌≡◌, ℕ, ◌-◌, Bool, true, false, ◌||◌, List, [], ◌∷◌, ◌++◌, length, take, is_some, Some, if◌then◌else◌, codes, refl, sym, ap, ◌∙◌, append_assoc}
 use Rattle.std.specs.Str.{bytes_eq}
 use Rattle.hdc_base.specs.declared.place.At.{At}
 use Rattle.hdc_tree.specs.declared.name.Name.{Name}
@@ -12,16 +12,15 @@ use Rattle.hdc_written.specs.declared.breach.Found.{Found}
 use Rattle.hdc_written.specs.Breaches.{all_noted}
 use Rattle.hdc_written.specs.Scopes.{standing_for}
 use Rattle.hdc_written.specs.Written.{Pattern, named, named_as, anything, built, literal_pattern, negative_pattern, unit_pattern, nil_pattern, pattern_in_parentheses, tuple_pattern, list_pattern, cons_pattern, Patterns, no_pattern, pattern}
-use Rattle.hdc_written.specs.Written.{variables, all_variables, Expression, chain, Links, no_link, link, Operand, variable, constructor, literal, unit, nil, cons, in_parentheses, tuple, list, range, comprehension, left_section, right_section, applied, lambda, let_in, if_else, case_of, Operands, no_operand, operand, Expressions, no_expression, expression, Qualifier, generator, condition, let_qualifier, Qualifiers, no_qualifier, qualifier, Alternative, blank, alternative, Alternatives, no_alternative, next_alternative, RightSide, plain, guarded, Guards, no_guard, guard, Declaration, empty, signature, equation, binding, Declarations, no_declaration, declaration, all_bound}
+use Rattle.hdc_written.specs.Written.{variables, all_variables, count_patterns, Expression, chain, Links, no_link, link, Operand, variable, constructor, literal, unit, nil, cons, in_parentheses, tuple, list, range, comprehension, left_section, right_section, applied, lambda, let_in, if_else, case_of, Operands, no_operand, operand, Expressions, no_expression, expression, Qualifier, generator, condition, let_qualifier, Qualifiers, no_qualifier, qualifier, Alternative, blank, alternative, Alternatives, no_alternative, next_alternative, RightSide, plain, guarded, Guards, no_guard, guard, Declaration, empty, signature, equation, binding, Declarations, no_declaration, declaration, all_bound}
 use Rattle.hdc_written.specs.Mirror.{head_patterns, rhs_of}
 use Rattle.hdc_written.specs.Events.{Event, opened, block, body, closed, each_introduced, matches, each_matches, operator_events, closing, closings, expression_events, link_events, operand_events, each_operand_events, each_expression_events, opening, openings, alternative_events, each_alternative_events, right_side_events, guard_events, declaration_events, each_declaration_events}
-use Rattle.hdc_written.proofs.Binding.{left_again}
 use Rattle.hdc_written.proofs.FirstBreach.{noted_joined}
 use Rattle.hdc_written.proofs.Scoping.{left_bound}
 use Rattle.hdc_rules.specs.declared.known.Known.{Known}
 use Rattle.hdc_rules.specs.declared.scan.Scan.{Scan}
 use Rattle.hdc_rules.specs.Known.{Values, value, skeletons}
-use Rattle.hdc_rules.specs.Names.{where_so, names_text, unknown, is_skeleton}
+use Rattle.hdc_rules.specs.Names.{where_so, names_text, unknown, unless_counted, is_skeleton}
 use Rattle.hdc_rules.specs.Bindings.{block_breaches}
 use Rattle.hdc_rules.specs.Uses.{locally, bound_together, pattern_breaches, each_pattern_breaches, behind, all_behind, operator_breaches, expression_breaches, link_breaches, operand_breaches, each_operand_breaches, each_expression_breaches, qualifier_breaches, each_qualifier_breaches, alternative_breaches, each_alternative_breaches, right_side_breaches, guard_breaches, declaration_breaches, each_declaration_breaches, top_breaches, each_top_breaches}
 use Rattle.hdc_rules.specs.Scan.{note_all, left, run, run_top, run_tops}
@@ -110,7 +109,9 @@ mutual
   ran_matches k (named x) s = refl
   ran_matches k (named_as x p) s = ran_matches k p s
   ran_matches k (anything a) s = refl
-  ran_matches k (built c ps) s = ran_each_matches k ps _ ∙ noted_twice _ _ s
+  ran_matches k (built c ps) s =
+      let own = unless_counted (standing_for c.text k.constructors) 6 (count_patterns ps) c.at in
+      ran_each_matches k ps (note_all own s) ∙ noted_twice own (each_pattern_breaches k.constructors ps) s
   ran_matches k (literal_pattern a l) s = refl
   ran_matches k (negative_pattern a b n) s = refl
   ran_matches k (unit_pattern a) s = refl
@@ -181,7 +182,9 @@ mutual
   ran_operand k (tuple a es) s = ran_expressions k es s
   ran_operand k (list a es) s = ran_expressions k es s
   ran_operand k (range a e f) s =
-      and_then k (expression_events e) (expression_events f) _ (expression_breaches k s.scope e) (λ v. expression_breaches k v f) (ran_expression k e _) (ran_expression k f) ∙ noted_twice _ _ s
+      let own = unknown k.library (codes "enumFromTo") a in
+      and_then k (expression_events e) (expression_events f) (note_all own s) (expression_breaches k s.scope e) (λ v. expression_breaches k v f) (ran_expression k e (note_all own s)) (ran_expression k f)
+      ∙ noted_twice own (expression_breaches k s.scope e ++ expression_breaches k s.scope f) s
   ran_operand k (comprehension a e qs) s =
       let bs = each_qualifier_breaches k s.scope a qs in
       let cs = expression_breaches k (all_behind s.scope qs) e in
