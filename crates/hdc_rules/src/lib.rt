@@ -7,10 +7,13 @@
 
 mod block;
 mod check;
+mod equations;
 mod known;
 mod listed;
 mod names;
+mod pattern_variables;
 mod scan;
+mod signed;
 mod tops;
 mod type_variables;
 mod types;
