@@ -1,5 +1,5 @@
 -- Needs that are added to a graph.
-use Rattle.std.proofs.Common.{◌≡◌, ℕ, zero, suc, ◌+◌, ◌<◌, ◌≤◌, List, [], ◌∷◌, ◌++◌, Some, if◌then◌else◌, Bool, true, false, length, get_or, refl, sym, ap, ◌∙◌, arith, append_assoc, append-nil, get_or-set_same, length-set, length-append}
+use Rattle.std.proofs.Common.{◌≡◌, ℕ, zero, suc, ◌+◌, ◌<◌, ◌≤◌, List, [], ◌∷◌, ◌++◌, Some, if◌then◌else◌, Bool, true, false, length, get_or, refl, sym, ap, subst, ◌∙◌, arith, append_assoc, append-nil, get_or-set_same, length-set, length-append}
 use Rattle.std.proofs.Math.ListN.{set}
 use Rattle.std.proofs.Math.Seq.{set-append_seam, get_or-append_seam}
 use Rattle.std.proofs.lemmas.List.{set-get_or}
@@ -12,7 +12,7 @@ use Rattle.hdc_written.specs.Mirror.{tops_behind}
 use Rattle.hdc_written.specs.Scopes.{Binding, standing_for}
 use Rattle.hdc_written.specs.TypeMirror.{type_exp_of}
 use Rattle.hdc_written.specs.WrittenTypes.{WrittenType, type_constructor, type_variable, unit_type, type_in_parentheses, tuple_type, list_type, arrow_type, Types, no_type, next_type}
-use Rattle.hdc_synonyms.specs.Synonyms.{top_types, declared_types, number_of, type_needs, each_type_needs, top_needs, each_top_needs}
+use Rattle.hdc_synonyms.specs.Synonyms.{top_types, declared_types, number_of, type_needs, each_type_needs, top_needs, each_top_needs, synonym_needs}
 use Rattle.hdc_synonyms.specs.Adding.{unlinked, with_needs, top_added, each_added, AllBelow, AreWithin}
 
 -- ---- one node
@@ -137,3 +137,19 @@ pub below_at : (limit : ℕ) (xs : List ℕ) (k d : ℕ) → AllBelow limit xs �
 below_at limit [] k d all lt = absurd (omega arith)
 below_at limit (x ∷ xs) zero d all lt = all.0
 below_at limit (x ∷ xs) (suc k) d all lt = below_at limit xs k d all.1 (omega arith)
+
+-- ---- the graph of a text
+
+-- the types of a text are those of so many declarations
+pub text_within : (limit : ℕ) (first : Top) (rest : List NextTop) (declared : List (Binding ℕ)) → declared ≡ declared_types 0 (first ∷ tops_behind rest) → length rest < limit → AreWithin limit declared
+text_within limit first rest declared e lt =
+    let size = size_tops_behind rest in
+    subst (AreWithin limit) (sym e) (declared_within limit 0 (first ∷ tops_behind rest) (omega (arith, size, lt)))
+
+pub text_added : (first : Top) (rest : List NextTop) (declared : List (Binding ℕ)) (start now all : Nodes) → declared ≡ declared_types 0 (first ∷ tops_behind rest) → start ≡ unlinked (suc (length rest)) → now ≡ top_added declared 0 first start → all ≡ each_added declared 1 (tops_behind rest) now → all ≡ synonym_needs (first ∷ tops_behind rest)
+text_added first rest declared start now all d e f g =
+    let ts = first ∷ tops_behind rest in
+    g
+    ∙ ap (each_added declared 1 (tops_behind rest)) (f ∙ ap (top_added declared 0 first) (e ∙ ap (λ n. unlinked (suc n)) (sym (size_tops_behind rest))))
+    ∙ all_added declared ts
+    ∙ ap (λ z. each_top_needs z ts) d

@@ -5,8 +5,9 @@ use Rattle.hdc_base.specs.declared.place.At.{At}
 use Rattle.hdc_tree.specs.declared.program.Synonym.{Synonym}
 use Rattle.hdc_tree.specs.declared.program.Top.{Top}
 use Rattle.hdc_tree.specs.declared.program.Top.TheVariants as top
-use Rattle.hdc_graph.specs.Needs.{Reaches, AreCyclic}
+use Rattle.hdc_graph.specs.Needs.{Nodes, AreCyclic}
 use Rattle.hdc_written.specs.declared.breach.Breach.{Breach}
+use Rattle.hdc_written.specs.declared.breach.Found.{Found}
 use Rattle.hdc_written.specs.Breaches.{breach, IsFirst, IsOneOf, nothing_found, all_noted}
 use Rattle.hdc_written.proofs.FirstBreach.{first_of_same, first_of_list, one_of_left, one_of_right, one_of_either}
 use Rattle.hdc_synonyms.specs.Synonyms.{declared_types, synonym_needs, IsCyclicSynonym}
@@ -66,20 +67,20 @@ marked_of cyclic n (t ∷ ts) b h = by (one_of_either b (where_cyclic (get_or cy
     by (inr k) rest = further cyclic n t ts b (rest k)
 
 noted_here : (c : Bool) (t : Top) (s : Synonym) → t ≡ top.Synonym s → IsTrue c → IsOneOf (breach 9 s.name.at) (where_cyclic c t)
-noted_here c t s is yes =
+noted_here c t s is holds =
     let Noted : Bool → Top → Type 0 = λ d x. IsOneOf (breach 9 s.name.at) (where_cyclic d x) in
-    subst (λ d. Noted d t) (sym yes) (subst (Noted true) (sym is) (inl refl))
+    subst (λ d. Noted d t) (sym holds) (subst (Noted true) (sym is) (inl refl))
 
 of_marked : (cyclic : List Bool) (n : ℕ) (ts : List Top) (k : ℕ) (s : Synonym) → slice_get ts k ≡ Some (top.Synonym s) → IsTrue (get_or cyclic (n + k) false) → IsOneOf (breach 9 s.name.at) (cyclic_breaches cyclic n ts)
-of_marked cyclic n [] k s is yes = absurd cc
-of_marked cyclic n (t ∷ ts) zero s is yes =
+of_marked cyclic n [] k s is holds = absurd cc
+of_marked cyclic n (t ∷ ts) zero s is holds =
     let same : t ≡ top.Synonym s = cc in
     one_of_left (breach 9 s.name.at) (where_cyclic (get_or cyclic n false) t) (cyclic_breaches cyclic (suc n) ts)
-    (noted_here (get_or cyclic n false) t s same (subst (λ m. IsTrue (get_or cyclic m false)) (add-zero n) yes))
-of_marked cyclic n (t ∷ ts) (suc k) s is yes =
+    (noted_here (get_or cyclic n false) t s same (subst (λ m. IsTrue (get_or cyclic m false)) (add-zero n) holds))
+of_marked cyclic n (t ∷ ts) (suc k) s is holds =
     let same : n + suc k ≡ suc n + k = omega arith in
     one_of_right (breach 9 s.name.at) (where_cyclic (get_or cyclic n false) t) (cyclic_breaches cyclic (suc n) ts)
-    (of_marked cyclic (suc n) ts k s is (subst (λ m. IsTrue (get_or cyclic m false)) same yes))
+    (of_marked cyclic (suc n) ts k s is (subst (λ m. IsTrue (get_or cyclic m false)) same holds))
 
 get_within : (ts : List Top) (k : ℕ) (t : Top) → slice_get ts k ≡ Some t → k < length ts
 get_within [] k t is = absurd cc
@@ -111,12 +112,18 @@ noted_cyclic ts cyclic known b h = by (marked_of cyclic 0 ts b h)
 cyclic_noted : (ts : List Top) (cyclic : List Bool) → AreCyclic (synonym_needs ts) cyclic → (b : Breach) → IsCyclicSynonym ts b → IsOneOf b (cyclic_breaches cyclic 0 ts)
 cyclic_noted ts cyclic known b h =
     let lt = node_within ts h.number (top.Synonym h.synonym) h.is_synonym in
-    let yes = (known.reaches h.number lt).1 h.reaches in
+    let holds = (known.reaches h.number lt).1 h.reaches in
     subst (λ x. IsOneOf x (cyclic_breaches cyclic 0 ts)) (sym (same_breach b h.synonym.name.at h.rule h.at))
-    (of_marked cyclic 0 ts h.number h.synonym h.is_synonym (subst (λ k. IsTrue (get_or cyclic k false)) (sym (zero-add h.number)) yes))
+    (of_marked cyclic 0 ts h.number h.synonym h.is_synonym (subst (λ k. IsTrue (get_or cyclic k false)) (sym (zero-add h.number)) holds))
 
--- what is noted is the first synonym that reaches itself
-pub first_cyclic : (ts : List Top) (cyclic : List Bool) → AreCyclic (synonym_needs ts) cyclic → IsFirst (IsCyclicSynonym ts) (all_noted nothing_found (cyclic_breaches cyclic 0 ts)).breach
+first_cyclic : (ts : List Top) (cyclic : List Bool) → AreCyclic (synonym_needs ts) cyclic → IsFirst (IsCyclicSynonym ts) (all_noted nothing_found (cyclic_breaches cyclic 0 ts)).breach
 first_cyclic ts cyclic known =
     let bs = cyclic_breaches cyclic 0 ts in
     first_of_same (λ b. IsOneOf b bs) (IsCyclicSynonym ts) (all_noted nothing_found bs).breach (noted_cyclic ts cyclic known) (cyclic_noted ts cyclic known) (first_of_list bs)
+
+-- what is noted is the first synonym that reaches itself
+pub first_found : (ts : List Top) (g : Nodes) (cyclic looked : List Bool) (start found : Found) → g ≡ synonym_needs ts → AreCyclic g cyclic → looked ≡ cyclic → start ≡ nothing_found → found ≡ all_noted start (cyclic_breaches looked 0 ts) → IsFirst (IsCyclicSynonym ts) found.breach
+first_found ts g cyclic looked start found is known same none e =
+    let all = e ∙ ap (λ (f : Found). all_noted f (cyclic_breaches looked 0 ts)) none ∙ ap (λ z. all_noted nothing_found (cyclic_breaches z 0 ts)) same in
+    let known_all = subst (λ z. AreCyclic z cyclic) is known in
+    subst (λ (f : Found). IsFirst (IsCyclicSynonym ts) f.breach) (sym all) (first_cyclic ts cyclic known_all)
