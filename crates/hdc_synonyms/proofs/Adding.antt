@@ -7,7 +7,7 @@ use Rattle.std.specs.Str.{bytes_eq}
 use Rattle.hdc_tree.specs.declared.program.NextTop.{NextTop}
 use Rattle.hdc_tree.specs.declared.program.Top.{Top}
 use Rattle.hdc_tree.specs.declared.program.Top.TheVariants as top
-use Rattle.hdc_graph.specs.Needs.{Nodes, needs_of}
+use Rattle.hdc_graph.specs.Needs.{Nodes}
 use Rattle.hdc_written.specs.Mirror.{tops_behind}
 use Rattle.hdc_written.specs.Scopes.{Binding, standing_for}
 use Rattle.hdc_written.specs.TypeMirror.{type_exp_of}

@@ -1,8 +1,7 @@
 -- One turn of a loop over the declarations behind the first, or over the needs of one.
-use Rattle.std.proofs.Common.{◌≡◌, ℕ, suc, ◌+◌, ◌<◌, List, [], ◌∷◌, ◌++◌, length, drop, get_or, false, Bool, sym, ap, ◌∙◌, add-one}
+use Rattle.std.proofs.Common.{◌≡◌, ℕ, suc, ◌+◌, ◌<◌, List, [], ◌∷◌, length, drop, get_or, false, Bool, sym, ap, ◌∙◌, add-one}
 use Rattle.hdc_tree.specs.declared.program.NextTop.{NextTop}
 use Rattle.hdc_graph.specs.Needs.{Nodes}
-use Rattle.hdc_written.specs.declared.breach.Breach.{Breach}
 use Rattle.hdc_written.specs.declared.breach.Found.{Found}
 use Rattle.hdc_written.specs.Breaches.{all_noted}
 use Rattle.hdc_written.specs.Mirror.{tops_behind}

@@ -1,5 +1,5 @@
 -- The breaches that are noted are those of the synonyms that reach themselves.
-use Rattle.std.proofs.Common.{◌≡◌, ◌⊎◌, ◌↔◌, ℕ, zero, suc, ◌+◌, ◌<◌, Bool, true, false, IsTrue, List, [], ◌∷◌, ◌++◌, Some, length, get_or, refl, sym, ap, subst, ◌∙◌, inl, inr, arith, add-zero, zero-add}
+use Rattle.std.proofs.Common.{◌≡◌, ◌⊎◌, ℕ, zero, suc, ◌+◌, ◌<◌, Bool, true, false, IsTrue, List, [], ◌∷◌, Some, length, get_or, refl, sym, ap, subst, ◌∙◌, inl, inr, arith, add-zero, zero-add}
 use Rattle.std.specs.Prelude.{slice_get}
 use Rattle.hdc_base.specs.declared.place.At.{At}
 use Rattle.hdc_tree.specs.declared.program.Synonym.{Synonym}
@@ -11,7 +11,7 @@ use Rattle.hdc_written.specs.declared.breach.Found.{Found}
 use Rattle.hdc_written.specs.Breaches.{breach, IsFirst, IsOneOf, nothing_found, all_noted}
 use Rattle.hdc_written.proofs.FirstBreach.{first_of_same, first_of_list, one_of_left, one_of_right, one_of_either}
 use Rattle.hdc_synonyms.specs.Synonyms.{declared_types, synonym_needs, IsCyclicSynonym}
-use Rattle.hdc_synonyms.specs.Noted.{synonym_breaches, where_cyclic, cyclic_breaches}
+use Rattle.hdc_synonyms.specs.Noted.{where_cyclic, cyclic_breaches}
 use Rattle.hdc_synonyms.proofs.Adding.{size_each_top_needs}
 
 -- a synonym of the list, at this place behind the n-th declaration, that is known to reach itself

@@ -14,10 +14,11 @@ unlinked (suc n) = [] ∷ unlinked n
 abbrev pub with_needs : ℕ → List ℕ → Nodes → Nodes
 with_needs n xs g = slice_set g n (needs_of g n ++ xs)
 
+-- a declaration with this number gets its needs
 abbrev pub top_added : List (Binding ℕ) → ℕ → Top → Nodes → Nodes
 top_added declared n t g = with_needs n (top_needs declared t) g
 
--- the same for declarations from this number on
+-- the same for declarations, numbered from this number on
 abbrev pub each_added : List (Binding ℕ) → ℕ → List Top → Nodes → Nodes
 each_added declared n [] g = g
 each_added declared n (t ∷ ts) g = each_added declared (suc n) ts (top_added declared n t g)

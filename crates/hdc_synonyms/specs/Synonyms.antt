@@ -9,9 +9,7 @@ use Rattle.hdc_written.specs.Scopes.{Binding, standing_for}
 use Rattle.hdc_written.specs.WrittenTypes.{WrittenType, type_constructor, type_variable, unit_type, type_in_parentheses, tuple_type, list_type, arrow_type, Types, no_type, next_type}
 use Rattle.hdc_written.specs.TypeMirror.{type_exp_of}
 
--- ---- the types of a text, each with the number of its declaration, from this number on; data types and synonyms
--- share their names, and of two declarations of one name the first counts
-
+-- the type that a declaration with this number declares; data types and synonyms share their names
 abbrev pub top_types : ℕ → Top → List (Binding ℕ)
 top_types n (top.Data d) = record { name = d.name.text; what = n } ∷ []
 top_types n (top.Synonym s) = record { name = s.name.text; what = n } ∷ []
@@ -20,17 +18,17 @@ top_types n (top.Fixity f) = []
 top_types n (top.Signature x xs a t) = []
 top_types n (top.Equation h r) = []
 
+-- the types of declarations, numbered from this number on: of two with one name the first counts
 abbrev pub declared_types : ℕ → List Top → List (Binding ℕ)
 declared_types n [] = []
 declared_types n (t ∷ ts) = top_types n t ++ declared_types (suc n) ts
 
--- ---- what a type needs: the declarations of the constructors that it names, in arguments too, as far as the text
--- declares them
-
+-- the declaration of a name, where the text has one; other names are built in or the prelude's, and lead nowhere
 abbrev pub number_of : Option ℕ → List ℕ
 number_of None = []
 number_of (Some n) = n ∷ []
 
+-- what a type needs: the declarations of the constructors that it names, in arguments too, in the order of the text
 abbrev mutual
   pub type_needs : List (Binding ℕ) → WrittenType → List ℕ
   type_needs declared (type_constructor c ts) = number_of (standing_for c.text declared) ++ each_type_needs declared ts
@@ -45,7 +43,7 @@ abbrev mutual
   each_type_needs declared no_type = []
   each_type_needs declared (next_type t ts) = type_needs declared t ++ each_type_needs declared ts
 
--- a synonym needs what its meaning needs; no other declaration leads on
+-- what a declaration needs: a synonym what its meaning needs, and any other nothing
 abbrev pub top_needs : List (Binding ℕ) → Top → List ℕ
 top_needs declared (top.Synonym s) = type_needs declared (type_exp_of s.meaning)
 top_needs declared top.Empty = []
@@ -54,11 +52,12 @@ top_needs declared (top.Fixity f) = []
 top_needs declared (top.Signature x xs a t) = []
 top_needs declared (top.Equation h r) = []
 
+-- the same for each declaration
 abbrev pub each_top_needs : List (Binding ℕ) → List Top → Nodes
 each_top_needs declared [] = []
 each_top_needs declared (t ∷ ts) = top_needs declared t ∷ each_top_needs declared ts
 
--- what each declaration of a text needs
+-- the graph of a text: its declarations, numbered from 0, and what they need
 abbrev pub synonym_needs : List Top → Nodes
 synonym_needs ts = each_top_needs (declared_types 0 ts) ts
 

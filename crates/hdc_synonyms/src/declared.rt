@@ -43,11 +43,7 @@ fn bind_next_tops<'t>(declared: &mut Scope<'t, u32>, tops: &'t [NextTop]) -> Res
     Ok(())
 }
 
-fn bind_top<'t>(
-    declared: &mut Scope<'t, u32>,
-    number: u32,
-    part: &'t Top,
-) -> Result<(), AllocError>
+fn bind_top<'t>(declared: &mut Scope<'t, u32>, number: u32, part: &'t Top) -> Result<(), AllocError>
     ensures { OnOk result (declared.new ≡ spec.top_types number part.now ++ declared.old) }
 {
     match part {

@@ -32,11 +32,7 @@ pub(crate) fn needs_of_top(
 
 #[cycle(add_types)]
 #[tactic(auto, using(crate::proofs::Listing::in_order, hdc_written::proofs::TypeMirror::mirrored_types))]
-fn add_type(
-    needs: &mut Items<u32>,
-    declared: &Scope<u32>,
-    part: &TypeExp,
-) -> Result<(), AllocError>
+fn add_type(needs: &mut Items<u32>, declared: &Scope<u32>, part: &TypeExp) -> Result<(), AllocError>
     ensures { OnOk result (needs.new ≡ needs.old ++ spec.type_needs declared.now (mirror.type_exp_of part.now)) }
 {
     add_btype(needs, declared, &part.first)?;
@@ -45,11 +41,7 @@ fn add_type(
 
 #[cycle(add_types)]
 #[tactic(auto, using(crate::proofs::Listing::in_order, hdc_written::proofs::TypeMirror::mirrored_types))]
-fn add_atype(
-    needs: &mut Items<u32>,
-    declared: &Scope<u32>,
-    part: &Atype,
-) -> Result<(), AllocError>
+fn add_atype(needs: &mut Items<u32>, declared: &Scope<u32>, part: &Atype) -> Result<(), AllocError>
     ensures { OnOk result (needs.new ≡ needs.old ++ spec.type_needs declared.now (mirror.atype_of part.now)) }
 {
     match part {
@@ -67,11 +59,7 @@ fn add_atype(
 
 #[cycle(add_types)]
 #[tactic(auto, using(crate::proofs::Listing::in_order, hdc_written::proofs::TypeMirror::mirrored_types))]
-fn add_btype(
-    needs: &mut Items<u32>,
-    declared: &Scope<u32>,
-    part: &Btype,
-) -> Result<(), AllocError>
+fn add_btype(needs: &mut Items<u32>, declared: &Scope<u32>, part: &Btype) -> Result<(), AllocError>
     ensures { OnOk result (needs.new ≡ needs.old ++ spec.type_needs declared.now (mirror.btype_of part.now)) }
 {
     match part {

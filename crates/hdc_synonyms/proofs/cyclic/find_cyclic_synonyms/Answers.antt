@@ -1,5 +1,5 @@
-use Rattle.std.proofs.Common.{◌∷◌, length, ap, ◌∙◌, arith}
-use Rattle.hdc_written.specs.Mirror.{tops_behind, tops_of}
+use Rattle.std.proofs.Common.{length, ap, ◌∙◌, arith}
+use Rattle.hdc_written.specs.Mirror.{tops_of}
 use Rattle.hdc_synonyms.specs.Synonyms.{declared_types}
 use Rattle.hdc_synonyms.proofs.Adding.{size_tops_behind, size_each_top_needs}
 use Rattle.hdc_synonyms.proofs.Noting.{first_found}

@@ -1,4 +1,4 @@
-use Rattle.std.proofs.Common.{suc, [], ◌∷◌, ◌++◌, List, ℕ, sym, ap, ◌∙◌, add-one}
+use Rattle.std.proofs.Common.{suc, [], ◌∷◌, ◌++◌, sym, ap, ◌∙◌, add-one}
 use Rattle.hdc_graph.specs.Needs.{Nodes}
 use Rattle.hdc_synonyms.specs.Adding.{unlinked}
 use Rattle.hdc_synonyms.proofs.Adding.{one_more_unlinked}
