@@ -11,5 +11,7 @@ mod cyclic;
 mod declared;
 mod graph;
 mod needs;
+#[cfg(test)]
+mod tests;
 
 pub use cyclic::find_cyclic_synonyms;
