@@ -1,3 +1,5 @@
 pub mod Free
 pub mod Blocks
 pub mod Needy
+pub mod Walk
+pub mod Ends
