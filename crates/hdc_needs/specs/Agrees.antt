@@ -38,9 +38,9 @@ pub record IsGraph (count : ℕ) (binds uses : List Mention) (node : List ℕ �
 
 -- a block that is gone through
 pub record IsOpen (ds : Declarations) (begun : ℕ) (current : Option ℕ) (uses : List Mention) (node : List ℕ → Option ℕ) (o : Open) : Type 0 where
-  pub block : declarations_of o.block ≡ ds
-  pub begun : o.begun ≡ begun
-  pub current : o.current ≡ current
+  pub block_is : declarations_of o.block ≡ ds
+  pub begun_is : o.begun ≡ begun
+  pub current_is : o.current ≡ current
   pub under : (i : ℕ) → current ≡ Some i → i < count_declarations ds
   pub graph : IsGraph (count_declarations ds) (bound_from 0 ds) uses node o.graph
 
@@ -54,7 +54,7 @@ pub record OverPatterns (xs : List Name) (Below : Targets → List kept.Frame �
   pub scope : Targets
   pub frames : List kept.Frame
   pub scope_is : s ≡ bound_to target.Variable xs scope
-  pub frames_are : fs ≡ frames ++ record { size = length scope; open = None } ∷ []
+  pub frames_are : fs ≡ frames ++ record { size = length scope; block = None } ∷ []
   pub below : Below scope frames
 
 -- a block over what is in scope below
@@ -66,7 +66,7 @@ pub record OverBlock (ds : Declarations) (begun : ℕ) (current : Option ℕ) (u
   pub open_block : Open
   pub scope_is : s ≡ front ++ scope
   pub stands : (t : List ℕ) → standing_for t s ≡ located (length frames) (node t) (standing_for t scope)
-  pub frames_are : fs ≡ frames ++ record { size = length scope; open = Some open_block } ∷ []
+  pub frames_are : fs ≡ frames ++ record { size = length scope; block = Some open_block } ∷ []
   pub is_open : IsOpen ds begun current uses node open_block
   pub below : Below scope frames
 

@@ -30,13 +30,13 @@ in_block f None = None
 in_block f (Some o) = Some (f o)
 
 abbrev pub frame_needing : ℕ → Frame → Frame
-frame_needing node f = record { size = f.size; open = in_block (needing node) f.open }
+frame_needing node f = record { size = f.size; block = in_block (needing node) f.block }
 
 abbrev pub frame_beginning : Frame → Frame
-frame_beginning f = record { size = f.size; open = in_block beginning f.open }
+frame_beginning f = record { size = f.size; block = in_block beginning f.block }
 
 abbrev pub frame_going_behind : Frame → Frame
-frame_going_behind f = record { size = f.size; open = in_block going_behind f.open }
+frame_going_behind f = record { size = f.size; block = in_block going_behind f.block }
 
 abbrev pub no_frame : Frame
-no_frame = record { size = 0; open = None }
+no_frame = record { size = 0; block = None }

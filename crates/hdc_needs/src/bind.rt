@@ -24,7 +24,7 @@ pub(crate) enum Target {
 
 /// A graph with a node for each declaration of a block.
 pub(crate) fn start_graph(alloc: Global, block: Option<&Block>) -> Result<Graph, AllocError>
-    ensures { IfOk result (λ graph. graph ≡ spec.start (declarations_of block)) }
+    ensures { IfOk result (λ graph. graph ≡ spec.start (declarations_of block.entry)) }
 {
     let mut graph = Graph::new(alloc);
     if let Some(block) = block {

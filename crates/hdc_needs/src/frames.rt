@@ -68,14 +68,14 @@ pub(crate) fn add_need(graph: &mut Graph, from: u32, to: u32) -> Result<(), Allo
 #[derive(Drop)]
 pub(crate) struct Frame<'t> {
     pub(crate) size: usize,
-    pub(crate) open: Option<Open<'t>>,
+    pub(crate) block: Option<Open<'t>>,
 }
 
 impl<'t> Frame<'t> {
     fn need(&mut self, node: u32) -> Result<(), AllocError>
         ensures { OnOk result (self.new ≡ spec.frame_needing node self.old) }
     {
-        match &mut self.open {
+        match &mut self.block {
             Some(open) => open.need(node),
             None => Ok(()),
         }
@@ -84,7 +84,7 @@ impl<'t> Frame<'t> {
     fn begin(&mut self) -> Result<(), AllocError>
         ensures { OnOk result (self.new ≡ spec.frame_beginning self.old) }
     {
-        match &mut self.open {
+        match &mut self.block {
             Some(open) => open.begin(),
             None => Ok(()),
         }
@@ -93,7 +93,7 @@ impl<'t> Frame<'t> {
     fn go_behind(&mut self)
         ensures { self.new ≡ spec.frame_going_behind self.old }
     {
-        if let Some(open) = &mut self.open {
+        if let Some(open) = &mut self.block {
             open.go_behind();
         }
     }
@@ -109,7 +109,12 @@ impl<'t> Model for Frames<'t> {
     ghost use Rattle.std.specs.Prelude.{List};
     ghost use Rattle.hdc_needs.specs.declared.frames.Frame.{Frame};
 
+    ghost use Rattle.hdc_tree.specs.contracts.expression.Block as block;
+    ghost use Rattle.std.specs.Coded.{codes};
+
     ghost Value = { List Frame };
+
+    ghost coded = { Prim.hlevel (codes, block.the_row.coded) };
 
     ghost view = { λ f. f.frames.items };
 }
@@ -133,7 +138,7 @@ impl<'t> Frames<'t> {
 
     /// One more.
     pub(crate) fn push(&mut self, frame: Frame<'t>) -> Result<(), AllocError>
-        ensures { OnOk result (self.new ≡ self.old ++ frame ∷ []) }
+        ensures { OnOk result (self.new ≡ self.old ++ frame.entry ∷ []) }
     {
         self.frames.push(frame)?;
         Ok(())

@@ -25,7 +25,7 @@ pub(crate) fn bound_names<'t>(
     alloc: Global,
     block: Option<&'t Block>,
 ) -> Result<Items<BoundName<'t>>, AllocError>
-    ensures { IfOk result (λ names. map mention_of names ≡ spec.bound_from 0 (declarations_of block)) }
+    ensures { IfOk result (λ names. map mention_of names ≡ spec.bound_from 0 (declarations_of block.entry)) }
 {
     let mut names = Items::new(alloc);
     if let Some(block) = block {

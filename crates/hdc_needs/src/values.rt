@@ -29,7 +29,7 @@ pub(crate) fn note_needy(alloc: Global, found: &mut Found, open: &Open) -> Resul
 const MOST_NODES: usize = 4_294_967_296;
 
 fn note_values(found: &mut Found, cyclic: &[bool], block: Option<&Block>) -> Result<(), AllocError>
-    ensures { OnOk result (found.new ≡ all_noted found.old (spec.needy_values cyclic.now 0 (declarations_of block))) }
+    ensures { OnOk result (found.new ≡ all_noted found.old (spec.needy_values cyclic.now 0 (declarations_of block.entry))) }
 {
     match block {
         Some(block) => {

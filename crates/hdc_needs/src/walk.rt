@@ -1,6 +1,6 @@
 //! The events of right sides, gone through in order.
 
-ghost use Rattle.std.specs.Prelude.{◌≡◌, OnOk, map};
+ghost use Rattle.std.specs.Prelude.{[], OnOk, map};
 ghost use Rattle.hdc_written.specs.Events as events;
 ghost use Rattle.hdc_written.specs.Mirror as mirror;
 ghost use Rattle.hdc_written.specs.Recorded.{event_of, recorded};
@@ -119,7 +119,7 @@ impl<'t> Walk<'t> {
         ensures { (state : spec.State) → Describes self.old state → OnOk result (Describes self.new (spec.step events.opened state)) }
     {
         let size = self.scope.size();
-        self.frames.push(Frame { size, open: None })
+        self.frames.push(Frame { size, block: None })
     }
 
     // A variable comes into scope.
@@ -131,7 +131,7 @@ impl<'t> Walk<'t> {
 
     // The names of a block come into scope.
     fn open_block(&mut self, alloc: Global, block: Option<&'t Block>) -> Result<(), AllocError>
-        ensures { (state : spec.State) → Describes self.old state → OnOk result (Describes self.new (spec.step (events.block (declarations_of block)) state)) }
+        ensures { (state : spec.State) → Describes self.old state → OnOk result (Describes self.new (spec.step (events.block (declarations_of block.entry)) state)) }
     {
         let level = self.frames.len();
         let size = self.scope.size();
@@ -145,13 +145,16 @@ impl<'t> Walk<'t> {
             size,
             names.as_slice(),
         )?;
-        let open = Some(Open {
+        let open = Open {
             block,
             graph,
             begun: 0,
             current: None,
-        });
-        self.frames.push(Frame { size, open })
+        };
+        self.frames.push(Frame {
+            size,
+            block: Some(open),
+        })
     }
 
     // The next declaration begins.
@@ -176,7 +179,7 @@ impl<'t> Walk<'t> {
         match self.frames.pop() {
             Some(frame) => {
                 self.scope.leave(frame.size);
-                match frame.open {
+                match frame.block {
                     Some(open) => note_needy(alloc, &mut self.found, &open),
                     None => Ok(()),
                 }
