@@ -196,3 +196,104 @@ pub kept_use : (y : Name) (gs : List Frame) (s : Targets) (fs : List kept.Frame)
 kept_use y [] s fs h = subst (λ (v : Targets). InScope [] s (needed (standing_for y.text v) fs)) (sym h.0) h
 kept_use y (patterns xs ∷ gs) s fs h = passed_patterns y xs gs s fs h (kept_use y gs h.scope h.frames h.below) (names_text xs y.text) refl
 kept_use y (local ds k c us ∷ gs) s fs h = passed_block y ds k c us gs s fs h (kept_use y gs h.scope h.frames h.below) (names_text (all_bound ds) y.text) refl
+
+-- ---- the last frame changes
+
+pub kept_begun : (ds : Declarations) (k : ℕ) (c : Option ℕ) (us : List Mention) (gs : List Frame) (s : Targets) (fs : List kept.Frame) → k < count_declarations ds → OverBlock ds k c us (InScope gs) s fs → OverBlock ds (suc k) (Some k) us (InScope gs) s (set fs (length fs - 1) (frame_beginning (get_or fs (length fs - 1) no_frame)))
+kept_begun ds k c us gs s fs lt h =
+    let top : kept.Frame = record { size = length h.scope; block = Some h.open_block } in
+    let one = h.is_open.begun_is in
+    record {
+      scope = h.scope;
+      frames = h.frames;
+      front = h.front;
+      node = h.node;
+      open_block = beginning h.open_block;
+      scope_is = h.scope_is;
+      stands = h.stands;
+      frames_are = ap (λ gs. set gs (length gs - 1) (frame_beginning (get_or gs (length gs - 1) no_frame))) h.frames_are ∙ last_changed frame_beginning h.frames top no_frame;
+      is_open = record {
+        block_is = h.is_open.block_is;
+        begun_is = omega (arith, one);
+        current_is = ap Some h.is_open.begun_is;
+        under = λ i e. (let same : k ≡ i = cc in omega (arith, lt, same));
+        graph = h.is_open.graph;
+      };
+      below = h.below;
+    }
+
+pub kept_behind : (ds : Declarations) (k : ℕ) (c : Option ℕ) (us : List Mention) (gs : List Frame) (s : Targets) (fs : List kept.Frame) → OverBlock ds k c us (InScope gs) s fs → OverBlock ds k None us (InScope gs) s (set fs (length fs - 1) (frame_going_behind (get_or fs (length fs - 1) no_frame)))
+kept_behind ds k c us gs s fs h =
+    let top : kept.Frame = record { size = length h.scope; block = Some h.open_block } in
+    record {
+      scope = h.scope;
+      frames = h.frames;
+      front = h.front;
+      node = h.node;
+      open_block = going_behind h.open_block;
+      scope_is = h.scope_is;
+      stands = h.stands;
+      frames_are = ap (λ gs. set gs (length gs - 1) (frame_going_behind (get_or gs (length gs - 1) no_frame))) h.frames_are ∙ last_changed frame_going_behind h.frames top no_frame;
+      is_open = record {
+        block_is = h.is_open.block_is;
+        begun_is = h.is_open.begun_is;
+        current_is = refl;
+        under = λ i e. absurd cc;
+        graph = h.is_open.graph;
+      };
+      below = h.below;
+    }
+
+-- ---- variables come into scope
+
+pub kept_opened : (gs : List Frame) (s : Targets) (fs : List kept.Frame) → InScope gs s fs → OverPatterns [] (InScope gs) s (fs ++ record { size = length s; block = None } ∷ [])
+kept_opened gs s fs h = record { scope = s; frames = fs; scope_is = refl; frames_are = refl; below = h }
+
+pub kept_introduced : (x : Name) (xs : List Name) (gs : List Frame) (s : Targets) (fs : List kept.Frame) → OverPatterns xs (InScope gs) s fs → OverPatterns (xs ++ x ∷ []) (InScope gs) (record { name = x.text; what = target.Variable } ∷ s) fs
+kept_introduced x xs gs s fs h = record {
+    scope = h.scope;
+    frames = h.frames;
+    scope_is = ap (λ (v : Targets). record { name = x.text; what = target.Variable } ∷ v) h.scope_is ∙ sym (bound_joined target.Variable xs (x ∷ []) h.scope);
+    frames_are = h.frames_are;
+    below = h.below;
+  }
+
+-- ---- what came into scope last goes
+
+module _ {X : Type 0} where
+  pub same_ends : (xs ys : List X) (x y : X) → xs ++ x ∷ [] ≡ ys ++ y ∷ [] → (xs ≡ ys) × (x ≡ y)
+  same_ends [] [] x y e = (refl, cc)
+  same_ends [] (b ∷ ys) x y e = (let size = ap length e in let more = last_size ys y in absurd (omega (arith, size, more)))
+  same_ends (a ∷ xs) [] x y e = (let size = ap length e in let more = last_size xs x in absurd (omega (arith, size, more)))
+  same_ends (a ∷ xs) (b ∷ ys) x y e =
+      let first : a ≡ b = cc in
+      let rest : xs ++ x ∷ [] ≡ ys ++ y ∷ [] = cc in
+      let both = same_ends xs ys x y rest in
+      let front = both.0 in
+      (cc, both.1)
+
+pub left_patterns : (xs : List Name) (gs : List Frame) (s : Targets) (fs rest : List kept.Frame) (f : kept.Frame) → OverPatterns xs (InScope gs) s fs → fs ≡ rest ++ f ∷ [] → (f.block ≡ None) × InScope gs (drop (length s - f.size) s) rest
+left_patterns xs gs s fs rest f h e =
+    let ends = same_ends h.frames rest (record { size = length h.scope; block = None }) f (sym h.frames_are ∙ e) in
+    let left : drop (length s - f.size) s ≡ h.scope =
+      ap (λ (g : kept.Frame). drop (length s - g.size) s) (sym ends.1)
+      ∙ ap (λ (v : Targets). drop (length v - length h.scope) v) h.scope_is
+      ∙ left_bound target.Variable xs h.scope in
+    (ap (λ (g : kept.Frame). g.block) (sym ends.1), subst (λ (v : Targets). InScope gs v rest) (sym left) (subst (λ (gs' : List kept.Frame). InScope gs h.scope gs') ends.0 h.below))
+
+-- a block that goes, with its graph
+pub record LeftBlock (ds : Declarations) (k : ℕ) (c : Option ℕ) (us : List Mention) (b : Option Open) : Type 0 where
+  pub node : List ℕ → Option ℕ
+  pub open_block : Open
+  pub is : b ≡ Some open_block
+  pub is_open : IsOpen ds k c us node open_block
+
+pub left_block : (ds : Declarations) (k : ℕ) (c : Option ℕ) (us : List Mention) (gs : List Frame) (s : Targets) (fs rest : List kept.Frame) (f : kept.Frame) → OverBlock ds k c us (InScope gs) s fs → fs ≡ rest ++ f ∷ [] → LeftBlock ds k c us f.block × InScope gs (drop (length s - f.size) s) rest
+left_block ds k c us gs s fs rest f h e =
+    let ends = same_ends h.frames rest (record { size = length h.scope; block = Some h.open_block }) f (sym h.frames_are ∙ e) in
+    let left : drop (length s - f.size) s ≡ h.scope =
+      ap (λ (g : kept.Frame). drop (length s - g.size) s) (sym ends.1)
+      ∙ ap (λ (v : Targets). drop (length v - length h.scope) v) h.scope_is
+      ∙ left_again h.front h.scope in
+    (record { node = h.node; open_block = h.open_block; is = ap (λ (g : kept.Frame). g.block) (sym ends.1); is_open = h.is_open },
+     subst (λ (v : Targets). InScope gs v rest) (sym left) (subst (λ (gs' : List kept.Frame). InScope gs h.scope gs') ends.0 h.below))
