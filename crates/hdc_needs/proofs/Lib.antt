@@ -5,3 +5,4 @@ pub mod Linking
 pub mod Graphs
 pub mod Stands
 pub mod Keeping
+pub mod Opening
