@@ -1,4 +1,4 @@
-mod Walking
+pub mod Walking
 pub mod Naming
 pub mod Stepping
 pub mod Linking
@@ -6,3 +6,6 @@ pub mod Graphs
 pub mod Stands
 pub mod Keeping
 pub mod Opening
+pub mod Noting
+pub mod Results
+pub mod Finding

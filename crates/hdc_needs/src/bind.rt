@@ -23,15 +23,19 @@ pub(crate) enum Target {
 }
 
 /// A graph with a node for each declaration of a block.
+#[tactic(auto, using(hdc_written::proofs::ExpressionMirror::mirrored_expressions))]
 pub(crate) fn start_graph(alloc: Global, block: Option<&Block>) -> Result<Graph, AllocError>
     ensures { IfOk result (λ graph. graph ≡ spec.start (declarations_of block.entry)) }
 {
     let mut graph = Graph::new(alloc);
-    if let Some(block) = block {
-        graph.add_node(alloc)?;
-        add_nodes(alloc, &mut graph, block.rest.as_slice())?;
+    match block {
+        Some(block) => {
+            graph.add_node(alloc)?;
+            add_nodes(alloc, &mut graph, block.rest.as_slice())?;
+            Ok(graph)
+        }
+        None => Ok(graph),
     }
-    Ok(graph)
 }
 
 fn add_nodes(alloc: Global, graph: &mut Graph, parts: &[NextDecl]) -> Result<(), AllocError>

@@ -11,7 +11,7 @@ use crate::frames::Open;
 use crate::names::next_number;
 use hdc_base::At;
 use hdc_graph::find_components;
-use hdc_tree::{Block, Decl, Head, NextDecl};
+use hdc_tree::{Apat, Block, Decl, Head, NextDecl};
 use hdc_written::{Found, first_of_head, first_of_pat};
 use std::alloc::{AllocError, Global};
 
@@ -28,6 +28,7 @@ pub(crate) fn note_needy(alloc: Global, found: &mut Found, open: &Open) -> Resul
 
 const MOST_NODES: usize = 4_294_967_296;
 
+#[tactic(auto, using(hdc_written::proofs::ExpressionMirror::mirrored_expressions, hdc_written::proofs::FirstBreach::in_order))]
 fn note_values(found: &mut Found, cyclic: &[bool], block: Option<&Block>) -> Result<(), AllocError>
     ensures { OnOk result (found.new ≡ all_noted found.old (spec.needy_values cyclic.now 0 (declarations_of block.entry))) }
 {
@@ -98,14 +99,14 @@ fn first_of_plain(head: &Head) -> Option<At>
     ensures { result ≡ spec.plain_at (mirror.first_of_head head.now) (mirror.head_patterns head.now) }
 {
     match head {
-        Head::Prefix(_var, params) => {
-            if params.is_empty() {
-                Some(first_of_head(head))
-            } else {
-                None
-            }
-        }
+        Head::Prefix(_var, params) => plain(first_of_head(head), params.as_slice()),
         Head::Infix(_left, _op, _right) => None,
         Head::Paren(_open_at, _left, _op, _right, _close_at, _first, _rest) => None,
     }
+}
+
+fn plain(at: At, params: &[Apat]) -> Option<At>
+    ensures { result ≡ spec.plain_at at (mirror.each_pattern mirror.apat_of params.now) }
+{
+    if params.len() == 0 { Some(at) } else { None }
 }
