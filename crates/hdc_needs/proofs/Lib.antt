@@ -9,3 +9,4 @@ pub mod Opening
 pub mod Noting
 pub mod Results
 pub mod Finding
+pub mod Describing

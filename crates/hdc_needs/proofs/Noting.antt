@@ -1,17 +1,19 @@
 -- The values that are noted where a block goes.
 use Rattle.std.proofs.Common.{◌≡◌, ℕ, zero, suc, ◌+◌, ◌<◌, ◌⊎◌, ◌↔◌, inl, inr, Bool, true, false, List, [], ◌∷◌, ◌++◌, length, get_or, Option, Some, None, refl, sym, ap, ◌∙◌, subst, arith}
 use Rattle.hdc_base.specs.declared.place.At.{At}
+use Rattle.hdc_tree.specs.declared.pattern.Apat.{Apat}
 use Rattle.hdc_graph.specs.Needs.{Nodes, Reaches, one, further, AreCyclic}
 use Rattle.hdc_written.specs.declared.breach.Breach.{Breach}
 use Rattle.hdc_written.specs.declared.breach.Found.{Found}
 use Rattle.hdc_written.specs.Breaches.{breach, all_noted, nothing_found, IsOneOf}
 use Rattle.hdc_written.specs.Written.{Declaration, Declarations, no_declaration, declaration}
+use Rattle.hdc_written.specs.Mirror.{each_pattern, apat_of}
 use Rattle.hdc_written.proofs.FirstBreach.{noted_joined, one_of_left, one_of_right, one_of_either}
 use Rattle.hdc_needs.specs.Agrees.{IsGraph, HasFound}
 use Rattle.hdc_needs.specs.Binders.{bound_from}
 use Rattle.hdc_needs.specs.Needy.{value_at, declaration_at, value_in}
 use Rattle.hdc_needs.specs.Uses.{Breaks, OneBreaks}
-use Rattle.hdc_needs.specs.Values.{needy_value, needy_values, IsCyclic, AreNoted}
+use Rattle.hdc_needs.specs.Values.{plain_at, needy_value, needy_values, IsCyclic, AreNoted}
 use Rattle.hdc_needs.specs.Walk.{Mention, Ended, count_declarations}
 use Rattle.hdc_needs.proofs.Linking.{needing_lies}
 use Rattle.hdc_needs.proofs.Stepping.{to_steps, from_steps}
@@ -131,3 +133,9 @@ found_more ds us node g es old new graph n h = record {
         | inl old' ↦ one_of_left b h.breaches n.breaches ((h.exactly b).1 old')
         | inr new' ↦ elim new' [ inl it ↦ one_of_right b h.breaches n.breaches ((n.exactly b).1 (cyclic b it)) | inr none ↦ absurd none ]
       ]
+
+-- ---- what has parameters
+
+pub not_plain : (at : At) (ps : List Apat) → (length ps ≡ 0 → ⊥) → None ≡ plain_at at (each_pattern apat_of ps)
+not_plain at [] some = absurd (some refl)
+not_plain at (p ∷ ps) some = refl
