@@ -1,9 +1,7 @@
 -- What the code keeps is described by the state behind each event.
 use Rattle.std.proofs.Common.{◌≡◌, ℕ, suc, ◌+◌, ◌-◌, ◌<◌, Bool, true, false, nat_lt, List, [], ◌∷◌, ◌++◌, map, length, take, drop, get_or, set, Option, Some, None, if◌then◌else◌, refl, sym, ap, ◌∙◌, subst}
 use borrow.Author.Tests.{ltb-true}
-use Rattle.std.specs.Borrow.{Bor}
 use Rattle.std.proofs.lemmas.List.{take_more}
-use Rattle.hdc_tree.specs.declared.expression.Block.{Block}
 use Rattle.hdc_tree.specs.declared.name.Name.{Name}
 use Rattle.hdc_tree.specs.declared.program.NextTop.{NextTop}
 use Rattle.hdc_tree.specs.declared.program.Top.{Top}
@@ -11,7 +9,7 @@ use Rattle.hdc_graph.specs.Needs.{Nodes}
 use Rattle.hdc_written.specs.declared.breach.Found.{Found}
 use Rattle.hdc_written.specs.declared.events.Event as recorded_event
 use Rattle.hdc_written.specs.Breaches.{IsFirst}
-use Rattle.hdc_written.specs.Events.{Event, used, opened, introduced, block, declaring, body, closed}
+use Rattle.hdc_written.specs.Events.{used, opened, introduced, block, declaring, body, closed}
 use Rattle.hdc_written.specs.Mirror.{tops_behind}
 use Rattle.hdc_written.specs.Recorded.{event_of}
 use Rattle.hdc_written.specs.Scopes.{standing_for}
@@ -21,15 +19,14 @@ use Rattle.hdc_needs.specs.declared.bind.Target.TheVariants as target
 use Rattle.hdc_needs.specs.declared.frames.Open.{Open}
 use Rattle.hdc_needs.specs.declared.frames.Frame as kept
 use Rattle.hdc_needs.specs.declared.walk.Walk.{Walk}
-use Rattle.hdc_needs.specs.Agrees.{InScope, OverPatterns, OverBlock, HasFound, Describes}
+use Rattle.hdc_needs.specs.Agrees.{InScope, OverPatterns, OverBlock, Describes}
 use Rattle.hdc_needs.specs.Bind.{Targets, start, bind_all}
 use Rattle.hdc_needs.specs.Binders.{bound_from}
-use Rattle.hdc_needs.specs.Ends.{all_ended}
 use Rattle.hdc_needs.specs.Frames.{frame_beginning, frame_going_behind, no_frame}
 use Rattle.hdc_needs.specs.Kept.{declarations_of}
-use Rattle.hdc_needs.specs.Needy.{text_blocks, IsNeedy}
+use Rattle.hdc_needs.specs.Needy.{IsNeedy}
 use Rattle.hdc_needs.specs.Values.{AreNoted}
-use Rattle.hdc_needs.specs.Walk.{Mention, Frame, patterns, local, Ended, State, lost, going, count_declarations, step, run, run_top, run_tops}
+use Rattle.hdc_needs.specs.Walk.{Mention, Frame, patterns, local, Ended, State, lost, going, count_declarations, use_name, step, run, run_top, run_tops}
 use Rattle.hdc_needs.proofs.Finding.{found_first}
 use Rattle.hdc_needs.proofs.Keeping.{needed, kept_use, kept_begun, kept_behind, kept_opened, kept_introduced, left_patterns, left_block}
 use Rattle.hdc_needs.proofs.Noting.{found_more}
@@ -40,7 +37,7 @@ use Rattle.hdc_needs.proofs.Walking.{ran_tops}
 pub used_done : (w : Walk) (y : Name) (fs : List kept.Frame) (r : Option Target) (state : State) → standing_for y.text w.scope ≡ r → fs ≡ needed r w.frames → Describes w state → Describes (record { scope = w.scope; frames = fs; found = w.found }) (step (used y) state)
 used_done w y fs r lost stands e h = h
 used_done w y fs r (going gs es) stands e h =
-    (subst (λ (all : List kept.Frame). InScope _ w.scope all) (ap (λ q. needed q w.frames) stands ∙ sym e) (kept_use y gs w.scope w.frames h.0), h.1)
+    (subst (λ (all : List kept.Frame). InScope (use_name y gs) w.scope all) (ap (λ q. needed q w.frames) stands ∙ sym e) (kept_use y gs w.scope w.frames h.0), h.1)
 
 -- variables are to come into scope, and one comes
 pub opened_done : (w : Walk) (fs : List kept.Frame) (state : State) → fs ≡ w.frames ++ record { size = length w.scope; block = None } ∷ [] → Describes w state → Describes (record { scope = w.scope; frames = fs; found = w.found }) (step opened state)

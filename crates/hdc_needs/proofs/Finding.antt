@@ -1,13 +1,13 @@
 -- What declarations use and bind says what they need, and the values that need themselves are those that are found.
-use Rattle.std.proofs.Common.{◌≡◌, ℕ, zero, suc, ◌+◌, ◌⊎◌, inl, inr, Bool, true, false, List, [], ◌∷◌, ◌++◌, get_or, Option, Some, None, if◌then◌else◌, refl, sym, ap, ◌∙◌, subst, arith, Contains}
+use Rattle.std.proofs.Common.{◌≡◌, ℕ, zero, suc, ◌+◌, ◌⊎◌, inl, inr, Bool, true, false, List, [], ◌∷◌, get_or, Some, if◌then◌else◌, refl, sym, ap, ◌∙◌, subst, arith}
 use Rattle.hdc_tree.specs.declared.name.Name.{Name}
 use Rattle.hdc_tree.specs.declared.program.Top.{Top}
 use Rattle.hdc_graph.specs.Lists.{Has}
-use Rattle.hdc_graph.specs.Needs.{Nodes, Needs, needs_of}
+use Rattle.hdc_graph.specs.Needs.{Needs, needs_of}
 use Rattle.hdc_graph.proofs.Noting.{has_contained, contains_had}
 use Rattle.hdc_written.specs.declared.breach.Breach.{Breach}
 use Rattle.hdc_written.specs.declared.breach.Found.{Found}
-use Rattle.hdc_written.specs.Breaches.{IsFirst, IsOneOf, all_noted, nothing_found}
+use Rattle.hdc_written.specs.Breaches.{IsFirst, IsOneOf}
 use Rattle.hdc_written.specs.Written.{Declaration, Declarations, no_declaration, declaration, bound, all_bound}
 use Rattle.hdc_written.proofs.FirstBreach.{first_of_same, first_of_list}
 use Rattle.hdc_needs.specs.Agrees.{HasFound}
@@ -18,7 +18,7 @@ use Rattle.hdc_needs.specs.Needy.{meets, binders, block_needs, NeedsItself, IsIn
 use Rattle.hdc_needs.specs.Uses.{Mentions, UsesOf, Breaks, OneBreaks}
 use Rattle.hdc_needs.specs.Walk.{Mention, logged}
 use Rattle.hdc_needs.proofs.Graphs.{mentions_front, mentions_back, mentions_either}
-use Rattle.hdc_needs.proofs.Stands.{HasText, text_is, text_same, named_has, has_named, has_front, has_back, mentions_has, has_mentions}
+use Rattle.hdc_needs.proofs.Stands.{HasText, named_has, has_named, has_front, has_back, mentions_has, has_mentions}
 use Rattle.hdc_needs.proofs.Stepping.{same_steps, steps_reach, reach_steps}
 
 -- ---- declarations by their numbers

@@ -1,5 +1,5 @@
 -- How a block's graph comes about.
-use Rattle.std.proofs.Common.{◌≡◌, ℕ, ◌+◌, ◌<◌, ◌≤◌, ◌⊎◌, inl, inr, List, [], ◌∷◌, ◌++◌, length, Option, Some, None, refl, sym, ap, ◌∙◌, subst, arith, length-append}
+use Rattle.std.proofs.Common.{◌≡◌, ℕ, ◌<◌, ◌≤◌, ◌⊎◌, inl, inr, List, [], ◌∷◌, ◌++◌, length, Option, Some, None, refl, sym, ap, ◌∙◌, subst, arith, length-append}
 use Rattle.hdc_graph.specs.Needs.{Nodes, Needs}
 use Rattle.hdc_needs.specs.Agrees.{LeadsTo, IsGraph}
 use Rattle.hdc_needs.specs.Frames.{linked}

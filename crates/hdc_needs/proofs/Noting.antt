@@ -1,12 +1,12 @@
 -- The values that are noted where a block goes.
-use Rattle.std.proofs.Common.{◌≡◌, ℕ, zero, suc, ◌+◌, ◌<◌, ◌⊎◌, ◌↔◌, inl, inr, Bool, true, false, List, [], ◌∷◌, ◌++◌, length, get_or, Option, Some, None, refl, sym, ap, ◌∙◌, subst, arith}
+use Rattle.std.proofs.Common.{◌≡◌, ℕ, zero, suc, ◌+◌, ◌<◌, ◌⊎◌, inl, inr, Bool, true, false, List, [], ◌∷◌, ◌++◌, length, get_or, Option, Some, None, refl, sym, ap, ◌∙◌, subst, arith}
 use Rattle.hdc_base.specs.declared.place.At.{At}
 use Rattle.hdc_tree.specs.declared.pattern.Apat.{Apat}
 use Rattle.hdc_graph.specs.Needs.{Nodes, Reaches, one, further, AreCyclic}
 use Rattle.hdc_written.specs.declared.breach.Breach.{Breach}
 use Rattle.hdc_written.specs.declared.breach.Found.{Found}
 use Rattle.hdc_written.specs.Breaches.{breach, all_noted, nothing_found, IsOneOf}
-use Rattle.hdc_written.specs.Written.{Declaration, Declarations, no_declaration, declaration}
+use Rattle.hdc_written.specs.Written.{Declarations, no_declaration, declaration}
 use Rattle.hdc_written.specs.Mirror.{each_pattern, apat_of}
 use Rattle.hdc_written.proofs.FirstBreach.{noted_joined, one_of_left, one_of_right, one_of_either}
 use Rattle.hdc_needs.specs.Agrees.{IsGraph, HasFound}

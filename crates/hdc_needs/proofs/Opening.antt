@@ -1,19 +1,18 @@
 -- How a block comes into scope.
-use Rattle.std.proofs.Common.{◌≡◌, ℕ, zero, suc, ◌+◌, ◌-◌, ◌<◌, ◌≤◌, inl, inr, Bool, true, false, List, [], ◌∷◌, ◌++◌, length, take, get_or, Option, Some, None, is_some, if◌then◌else◌, refl, sym, ap, ◌∙◌, subst, arith, length-append, append_assoc, append-nil, Contains}
+use Rattle.std.proofs.Common.{◌≡◌, ℕ, zero, suc, ◌-◌, ◌<◌, ◌≤◌, inl, inr, Bool, true, false, List, [], ◌∷◌, ◌++◌, length, take, Option, Some, None, is_some, if◌then◌else◌, refl, sym, ap, ◌∙◌, subst, arith, length-append, append_assoc, append-nil, Contains}
 use Rattle.std.proofs.Math.Seq.{take-append_seam}
 use Rattle.std.specs.Str.{bytes_eq}
-use Rattle.hdc_tree.specs.declared.name.Name.{Name}
 use Rattle.hdc_graph.specs.Needs.{Nodes, Needs, needs_of}
-use Rattle.hdc_written.specs.Scopes.{Binding, standing_for}
+use Rattle.hdc_written.specs.Scopes.{standing_for}
 use Rattle.hdc_written.specs.Written.{Declarations, no_declaration, declaration}
 use Rattle.hdc_needs.specs.declared.bind.Target.{Target}
 use Rattle.hdc_needs.specs.declared.bind.Target.TheVariants as target
 use Rattle.hdc_needs.specs.declared.frames.Open.{Open}
 use Rattle.hdc_needs.specs.declared.frames.Frame as kept
-use Rattle.hdc_needs.specs.Agrees.{IsGraph, IsOpen, located, OverBlock, InScope}
-use Rattle.hdc_needs.specs.Bind.{Targets, start, Named, node_in, known_if, known_node, node_for, grown, bind_as, bind_one, bind_all}
+use Rattle.hdc_needs.specs.Agrees.{IsGraph, located, OverBlock, InScope}
+use Rattle.hdc_needs.specs.Bind.{Targets, start, Named, known_if, known_node, bind_as, bind_one, bind_all}
 use Rattle.hdc_needs.specs.Binders.{bound_from}
-use Rattle.hdc_needs.specs.Frames.{linked, linked_within}
+use Rattle.hdc_needs.specs.Frames.{linked_within}
 use Rattle.hdc_needs.specs.Kept.{declarations_of}
 use Rattle.hdc_needs.specs.Walk.{Mention, Frame, count_declarations}
 use Rattle.hdc_needs.proofs.Graphs.{node_more, IsNodeOf, bound_more}

@@ -1,7 +1,6 @@
 -- Steps from declaration to declaration, and ways through graphs in which names stand between them.
-use Rattle.std.proofs.Common.{◌≡◌, ℕ, ◌<◌, ◌≤◌, ◌⊎◌, inl, inr, List, Option, Some, refl, sym, subst, arith}
+use Rattle.std.proofs.Common.{◌≡◌, ℕ, ◌<◌, ◌≤◌, ◌⊎◌, inl, inr, List, Option, refl, subst, arith}
 use Rattle.hdc_graph.specs.Needs.{Nodes, Needs, Reaches, one, further}
-use Rattle.hdc_graph.proofs.Reaching.{through}
 use Rattle.hdc_needs.specs.Agrees.{LeadsTo, IsGraph}
 use Rattle.hdc_needs.specs.Uses.{Mentions, UsesOf, Steps, last, more}
 use Rattle.hdc_needs.specs.Walk.{Mention}

@@ -1,5 +1,5 @@
 -- What the declarations of blocks use of them.
-use Rattle.std.specs.Prelude.{ℕ, suc, List, [], ◌∷◌, map, Option, None, Some, if◌then◌else◌}
+use Rattle.std.specs.Prelude.{ℕ, suc, List, [], ◌∷◌, map, Option, Some, if◌then◌else◌}
 use Rattle.hdc_tree.specs.declared.name.Name.{Name}
 use Rattle.hdc_written.specs.Written.{Declarations, no_declaration, declaration, all_bound}
 use Rattle.hdc_needs.specs.Free.{names_text, free_declaration}

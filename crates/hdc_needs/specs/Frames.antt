@@ -1,5 +1,5 @@
 -- What happens to the frames that the code keeps.
-use Rattle.std.specs.Prelude.{ℕ, ◌+◌, nat_lt, List, [], ◌∷◌, ◌++◌, length, slice_set, Option, None, Some, if◌then◌else◌}
+use Rattle.std.specs.Prelude.{ℕ, ◌+◌, nat_lt, [], ◌∷◌, ◌++◌, length, slice_set, Option, None, Some, if◌then◌else◌}
 use Rattle.hdc_graph.specs.Needs.{Nodes, needs_of}
 use Rattle.hdc_needs.specs.declared.frames.Open.{Open}
 use Rattle.hdc_needs.specs.declared.frames.Frame.{Frame}

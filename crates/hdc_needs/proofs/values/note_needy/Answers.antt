@@ -1,4 +1,3 @@
-use Rattle.std.proofs.Common.{OnOk}
 use Rattle.hdc_needs.specs.Kept.{declarations_of}
 use Rattle.hdc_needs.proofs.Noting.{are_noted}
 use Rattle.hdc_needs.proofs.Results.{ok_then}

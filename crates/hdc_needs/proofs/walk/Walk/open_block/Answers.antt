@@ -1,4 +1,4 @@
-use Rattle.std.proofs.Common.{◌≡◌, ◌∙◌, map, ap, refl, None}
+use Rattle.std.proofs.Common.{◌∙◌, map, ap, refl, None}
 use Rattle.hdc_needs.specs.declared.frames.Open.{Open}
 use Rattle.hdc_needs.specs.Kept.{mention_of}
 use Rattle.hdc_needs.proofs.Describing.{block_done}
