@@ -16,7 +16,7 @@ use Rattle.hdc_written.specs.Scopes.{standing_for}
 use Rattle.hdc_written.specs.Written.{Declarations}
 use Rattle.hdc_needs.specs.declared.bind.Target.{Target}
 use Rattle.hdc_needs.specs.declared.bind.Target.TheVariants as target
-use Rattle.hdc_needs.specs.declared.frames.Open.{Open}
+use Rattle.hdc_needs.specs.declared.frames.OpenBlock.{OpenBlock}
 use Rattle.hdc_needs.specs.declared.frames.Frame as kept
 use Rattle.hdc_needs.specs.declared.walk.Walk.{Walk}
 use Rattle.hdc_needs.specs.Agrees.{InScope, OverPatterns, OverBlock, Describes}
@@ -78,7 +78,7 @@ closed_patterns w s rest f (going (local ds k c us ∷ gs) es) e left is h =
     absurd cc
 
 -- a block goes
-pub closed_block : (w : Walk) (s : Targets) (rest : List kept.Frame) (f : kept.Frame) (o : Open) (found : Found) (state : State) → w.frames ≡ rest ++ f ∷ [] → s ≡ drop (length w.scope - f.size) w.scope → f.block ≡ Some o → AreNoted o.graph (declarations_of o.block) w.found found → Describes w state → Describes (record { scope = s; frames = rest; found = found }) (step closed state)
+pub closed_block : (w : Walk) (s : Targets) (rest : List kept.Frame) (f : kept.Frame) (o : OpenBlock) (found : Found) (state : State) → w.frames ≡ rest ++ f ∷ [] → s ≡ drop (length w.scope - f.size) w.scope → f.block ≡ Some o → AreNoted o.graph (declarations_of o.declarations) w.found found → Describes w state → Describes (record { scope = s; frames = rest; found = found }) (step closed state)
 closed_block w s rest f o found lost e left is noted h = h
 closed_block w s rest f o found (going [] es) e left is noted h = tt
 closed_block w s rest f o found (going (patterns xs ∷ gs) es) e left is noted h =
@@ -89,20 +89,22 @@ closed_block w s rest f o found (going (local ds k c us ∷ gs) es) e left is no
     let l = both.0 in
     let some : Some o ≡ Some l.open_block = sym is ∙ l.is in
     let same : o ≡ l.open_block = cc in
-    let own = subst (λ (p : Open). AreNoted p.graph (declarations_of p.block) w.found found) same noted in
+    let own = subst (λ (p : OpenBlock). AreNoted p.graph (declarations_of p.declarations) w.found found) same noted in
     let here = subst (λ (z : Declarations). AreNoted l.open_block.graph z w.found found) l.is_open.block_is own in
     (subst (λ (v : Targets). InScope gs v rest) (sym left) both.1, found_more ds us l.node l.open_block.graph es w.found found l.is_open.graph here h.1)
 
 -- a block comes into scope
-pub block_done : (w : Walk) (s : Targets) (fs : List kept.Frame) (level size : ℕ) (ms : List Mention) (first : Nodes) (o : Open) (state : State) → level ≡ length w.frames → size ≡ length w.scope → ms ≡ bound_from 0 (declarations_of o.block) → first ≡ start (declarations_of o.block) → bind_all level size ms w.scope first ≡ record { scope = s; graph = o.graph } → o.begun ≡ 0 → o.current ≡ None → fs ≡ w.frames ++ record { size = size; block = Some o } ∷ [] → Describes w state → Describes (record { scope = s; frames = fs; found = w.found }) (step (block (declarations_of o.block)) state)
+pub block_done : (w : Walk) (s : Targets) (fs : List kept.Frame) (level size : ℕ) (ms : List Mention) (first : Nodes) (o : OpenBlock) (state : State) → level ≡ length w.frames → size ≡ length w.scope → ms ≡ bound_from 0 (declarations_of o.declarations) → first ≡ start (declarations_of o.declarations) → bind_all level size ms w.scope first ≡ record { scope = s; graph = o.graph } → o.begun ≡ 0 → o.current ≡ None → fs ≡ w.frames ++ record { size = size; block = Some o } ∷ [] → Describes w state → Describes (record { scope = s; frames = fs; found = w.found }) (step (block (declarations_of o.declarations)) state)
 block_done w s fs level size ms first o lost level_is size_is ms_is first_is bound begun current e h = h
 block_done w s fs level size ms first o (going gs es) level_is size_is ms_is first_is bound begun current e h =
     let now : bind_all (length w.frames) (length w.scope) ms w.scope first ≡ record { scope = s; graph = o.graph } =
-      ap (λ (n : ℕ). bind_all n (length w.scope) ms w.scope first) (sym level_is) ∙ ap (λ (n : ℕ). bind_all level n ms w.scope first) (sym size_is) ∙ bound in
+    ap (λ (n : ℕ). bind_all n (length w.scope) ms w.scope first) (sym level_is) ∙ ap (λ (n : ℕ). bind_all level n ms w.scope first) (sym size_is) ∙ bound in
     let frames : fs ≡ w.frames ++ record { size = length w.scope; block = Some o } ∷ [] =
-      e ∙ ap (λ (n : ℕ). w.frames ++ record { size = n; block = Some o } ∷ []) size_is in
-    (subst (λ (all : List kept.Frame). OverBlock (declarations_of o.block) 0 None [] (InScope gs) s all) (sym frames)
-     (kept_block (declarations_of o.block) gs w.scope s w.frames o ms first h.0 ms_is first_is now refl begun current), h.1)
+    e ∙ ap (λ (n : ℕ). w.frames ++ record { size = n; block = Some o } ∷ []) size_is in (
+      subst (λ (all : List kept.Frame). OverBlock (declarations_of o.declarations) 0 None [] (InScope gs) s all) (sym frames)
+          (kept_block (declarations_of o.declarations) gs w.scope s w.frames o ms first h.0 ms_is first_is now refl begun current),
+      h.1,
+    )
 
 -- ---- one turn of a loop
 

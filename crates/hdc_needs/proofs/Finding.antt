@@ -50,9 +50,9 @@ holds_anyway k (declaration d ds) a P (inr h) = holds_anyway (suc k) ds a P h
 bound_at : (k : ℕ) (ds : Declarations) (b : ℕ) (t : List ℕ) → Mentions (bound_from k ds) b t → HoldsAt k ds b (λ d. HasText (bound d) t)
 bound_at k no_declaration b t h = absurd h
 bound_at k (declaration d ds) b t h = elim (mentions_either (mentions k (bound d)) (bound_from (suc k) ds) b t h) [
-    | inl own ↦ inl (mentions_has k (bound d) b t own)
-    | inr rest ↦ inr (bound_at (suc k) ds b t rest)
-  ]
+  | inl own ↦ inl (mentions_has k (bound d) b t own)
+  | inr rest ↦ inr (bound_at (suc k) ds b t rest)
+]
 
 at_bound : (k : ℕ) (ds : Declarations) (b : ℕ) (t : List ℕ) → HoldsAt k ds b (λ d. HasText (bound d) t) → Mentions (bound_from k ds) b t
 at_bound k no_declaration b t h = absurd h
@@ -96,9 +96,9 @@ has_logged i xs (y ∷ ys) us t g (inr h) = has_logged i xs ys (if names_text xs
 used_at : (xs : List Name) (k : ℕ) (ds : Declarations) (us : List Mention) (a : ℕ) (t : List ℕ) → Mentions (logged_declarations xs k ds us) a t → Mentions us a t ⊎ HoldsAt k ds a (λ d. HasText (free_declaration d) t)
 used_at xs k no_declaration us a t h = inl h
 used_at xs k (declaration d ds) us a t h = elim (used_at xs (suc k) ds (logged_all (Some k) xs (free_declaration d) us) a t h) [
-    | inl own ↦ elim (logged_has k xs (free_declaration d) us a t own) [ inl old' ↦ inl old' | inr new' ↦ inr (inl new') ]
-    | inr rest ↦ inr (inr rest)
-  ]
+  | inl own ↦ elim (logged_has k xs (free_declaration d) us a t own) [ inl old' ↦ inl old' | inr new' ↦ inr (inl new') ]
+  | inr rest ↦ inr (inr rest)
+]
 
 used_kept : (xs : List Name) (k : ℕ) (ds : Declarations) (us : List Mention) (a : ℕ) (t : List ℕ) → Mentions us a t → Mentions (logged_declarations xs k ds us) a t
 used_kept xs k no_declaration us a t h = h
@@ -179,8 +179,8 @@ need_of ds a b u =
     let t = u.text in
     let q : HoldsAt 0 ds b (λ d. HasText (bound d) t) = bound_at 0 ds b t u.bound in
     let step : HoldsAt 0 ds a (λ d. HasText (free_declaration d) t) → HoldsAt 0 ds a (λ d. Has (binders (free_declaration d) 0 ds) b) =
-      holds_also 0 ds a (λ d. HasText (free_declaration d) t) (λ d. Has (binders (free_declaration d) 0 ds) b)
-      (λ d h. at_binders (free_declaration d) 0 ds b (holds_also 0 ds b (λ e. HasText (bound e) t) (λ e. meets (bound e) (free_declaration d) ≡ true) (λ e g. has_meets (bound e) (free_declaration d) t h g) q)) in
+    holds_also 0 ds a (λ d. HasText (free_declaration d) t) (λ d. Has (binders (free_declaration d) 0 ds) b)
+    (λ d h. at_binders (free_declaration d) 0 ds b (holds_also 0 ds b (λ e. HasText (bound e) t) (λ e. meets (bound e) (free_declaration d) ≡ true) (λ e g. has_meets (bound e) (free_declaration d) t h g) q)) in
     let same : a ≡ 0 + a = omega arith in
     elim (used_at (all_bound ds) 0 ds [] a t u.used) [
       | inl none ↦ absurd none
@@ -194,11 +194,14 @@ Shared ds b t d = HasText (free_declaration d) t × HoldsAt 0 ds b (λ e. HasTex
 shared : (ds : Declarations) (b : ℕ) (d : Declaration) → Has (binders (free_declaration d) 0 ds) b → (t : List ℕ) × Shared ds b t d
 shared ds b d h =
     let met = holds_also 0 ds b (λ e. meets (bound e) (free_declaration d) ≡ true) (λ e. (t : List ℕ) × (HasText (free_declaration d) t × HasText (bound e) t))
-      (λ e m. (let r = meets_has (bound e) (free_declaration d) m in (r.0, (r.1, r.2)))) (binders_at (free_declaration d) 0 ds b h) in
-    let one = holds_some 0 ds b (λ t e. HasText (free_declaration d) t × HasText (bound e) t) met in
-    (one.0,
-     (holds_anyway 0 ds b (HasText (free_declaration d) one.0) (holds_also 0 ds b (λ e. HasText (free_declaration d) one.0 × HasText (bound e) one.0) (λ e. HasText (free_declaration d) one.0) (λ e g. g.0) one.1),
-      holds_also 0 ds b (λ e. HasText (free_declaration d) one.0 × HasText (bound e) one.0) (λ e. HasText (bound e) one.0) (λ e g. g.1) one.1))
+    (λ e m. (let r = meets_has (bound e) (free_declaration d) m in (r.0, (r.1, r.2)))) (binders_at (free_declaration d) 0 ds b h) in
+    let one = holds_some 0 ds b (λ t e. HasText (free_declaration d) t × HasText (bound e) t) met in (
+      one.0,
+      (
+        holds_anyway 0 ds b (HasText (free_declaration d) one.0) (holds_also 0 ds b (λ e. HasText (free_declaration d) one.0 × HasText (bound e) one.0) (λ e. HasText (free_declaration d) one.0) (λ e g. g.0) one.1),
+        holds_also 0 ds b (λ e. HasText (free_declaration d) one.0 × HasText (bound e) one.0) (λ e. HasText (bound e) one.0) (λ e g. g.1) one.1,
+      ),
+    )
 
 use_of : (ds : Declarations) (a b : ℕ) → Needs (block_needs ds ds) a b → UsesOf (bound_from 0 ds) (ended ds).uses a b
 use_of ds a b need =

@@ -7,7 +7,7 @@ use Rattle.hdc_written.proofs.Scoping.{bound_joined, left_bound}
 use Rattle.hdc_written.proofs.Binding.{left_again}
 use Rattle.hdc_needs.specs.declared.bind.Target.{Target}
 use Rattle.hdc_needs.specs.declared.bind.Target.TheVariants as target
-use Rattle.hdc_needs.specs.declared.frames.Open.{Open}
+use Rattle.hdc_needs.specs.declared.frames.OpenBlock.{OpenBlock}
 use Rattle.hdc_needs.specs.declared.frames.Frame as kept
 use Rattle.hdc_needs.specs.Agrees.{IsGraph, IsOpen, located, OverPatterns, OverBlock, InScope}
 use Rattle.hdc_needs.specs.Bind.{Targets}
@@ -106,14 +106,14 @@ all_under (local ds k c us ∷ gs) s fs h t =
     (under_located (length h.frames) (length fs) (h.node t) (standing_for t h.scope) (omega (arith, size)) (under_more (standing_for t h.scope) (length h.frames) (length fs) (omega (arith, size)) rest))
 
 -- a block's own name is used
-open_needing : (ds : Declarations) (k : ℕ) (c : Option ℕ) (us : List Mention) (node : List ℕ → Option ℕ) (o : Open) (y : Name) (m : ℕ) → IsOpen ds k c us node o → node y.text ≡ Some m → IsOpen ds k c (logged c y us) node (needing m o)
+open_needing : (ds : Declarations) (k : ℕ) (c : Option ℕ) (us : List Mention) (node : List ℕ → Option ℕ) (o : OpenBlock) (y : Name) (m : ℕ) → IsOpen ds k c us node o → node y.text ≡ Some m → IsOpen ds k c (logged c y us) node (needing m o)
 open_needing ds k None us node o y m h e = record {
-    block_is = h.block_is;
-    begun_is = h.begun_is;
-    current_is = h.current_is;
-    under = h.under;
-    graph = subst (λ (g : List (List ℕ)). IsGraph (count_declarations ds) (bound_from 0 ds) us node g) (sym (ap (λ cur. needing_by cur m o.graph) h.current_is)) h.graph;
-  }
+  block_is = h.block_is;
+  begun_is = h.begun_is;
+  current_is = h.current_is;
+  under = h.under;
+  graph = subst (λ (g : List (List ℕ)). IsGraph (count_declarations ds) (bound_from 0 ds) us node g) (sym (ap (λ cur. needing_by cur m o.graph) h.current_is)) h.graph;
+}
 open_needing ds k (Some i) us node o y m h e =
     let lies : i < count_declarations ds = h.under i refl in
     let enough = h.graph.enough in
@@ -125,7 +125,7 @@ open_needing ds k (Some i) us node o y m h e =
       current_is = h.current_is;
       under = h.under;
       graph = subst (λ (g : List (List ℕ)). IsGraph (count_declarations ds) (bound_from 0 ds) (record { number = i; name = y } ∷ us) node g) (sym (ap (λ cur. needing_by cur m o.graph) h.current_is ∙ within_is o.graph i m in_graph inside.1))
-        (used_more (count_declarations ds) (bound_from 0 ds) us node o.graph h.graph (record { number = i; name = y }) m lies e);
+          (used_more (count_declarations ds) (bound_from 0 ds) us node o.graph h.graph (record { number = i; name = y }) m lies e);
     }
 
 -- a name has a node where the block binds it
@@ -169,8 +169,8 @@ passed_block y ds k c us gs s fs h rest true e =
       scope_is = h.scope_is;
       stands = h.stands;
       frames_are = ap (λ q. needed q fs) stands ∙ ap (λ gs. set gs (length h.frames) (frame_needing own.0 (get_or gs (length h.frames) no_frame))) h.frames_are
-        ∙ ap (λ f. set (h.frames ++ top ∷ []) (length h.frames) (frame_needing own.0 f)) (last_got h.frames top no_frame)
-        ∙ last_set h.frames top (frame_needing own.0 top);
+          ∙ ap (λ f. set (h.frames ++ top ∷ []) (length h.frames) (frame_needing own.0 f)) (last_got h.frames top no_frame)
+          ∙ last_set h.frames top (frame_needing own.0 top);
       is_open = open_needing ds k c us h.node h.open_block y own.0 h.is_open own.1;
       below = h.below;
     }
@@ -251,12 +251,12 @@ kept_opened gs s fs h = record { scope = s; frames = fs; scope_is = refl; frames
 
 pub kept_introduced : (x : Name) (xs : List Name) (gs : List Frame) (s : Targets) (fs : List kept.Frame) → OverPatterns xs (InScope gs) s fs → OverPatterns (xs ++ x ∷ []) (InScope gs) (record { name = x.text; what = target.Variable } ∷ s) fs
 kept_introduced x xs gs s fs h = record {
-    scope = h.scope;
-    frames = h.frames;
-    scope_is = ap (λ (v : Targets). record { name = x.text; what = target.Variable } ∷ v) h.scope_is ∙ sym (bound_joined target.Variable xs (x ∷ []) h.scope);
-    frames_are = h.frames_are;
-    below = h.below;
-  }
+  scope = h.scope;
+  frames = h.frames;
+  scope_is = ap (λ (v : Targets). record { name = x.text; what = target.Variable } ∷ v) h.scope_is ∙ sym (bound_joined target.Variable xs (x ∷ []) h.scope);
+  frames_are = h.frames_are;
+  below = h.below;
+}
 
 -- ---- what came into scope last goes
 
@@ -276,15 +276,15 @@ pub left_patterns : (xs : List Name) (gs : List Frame) (s : Targets) (fs rest : 
 left_patterns xs gs s fs rest f h e =
     let ends = same_ends h.frames rest (record { size = length h.scope; block = None }) f (sym h.frames_are ∙ e) in
     let left : drop (length s - f.size) s ≡ h.scope =
-      ap (λ (g : kept.Frame). drop (length s - g.size) s) (sym ends.1)
-      ∙ ap (λ (v : Targets). drop (length v - length h.scope) v) h.scope_is
-      ∙ left_bound target.Variable xs h.scope in
+    ap (λ (g : kept.Frame). drop (length s - g.size) s) (sym ends.1)
+    ∙ ap (λ (v : Targets). drop (length v - length h.scope) v) h.scope_is
+    ∙ left_bound target.Variable xs h.scope in
     (ap (λ (g : kept.Frame). g.block) (sym ends.1), subst (λ (v : Targets). InScope gs v rest) (sym left) (subst (λ (gs' : List kept.Frame). InScope gs h.scope gs') ends.0 h.below))
 
 -- a block that goes, with its graph
-pub record LeftBlock (ds : Declarations) (k : ℕ) (c : Option ℕ) (us : List Mention) (b : Option Open) : Type 0 where
+pub record LeftBlock (ds : Declarations) (k : ℕ) (c : Option ℕ) (us : List Mention) (b : Option OpenBlock) : Type 0 where
   pub node : List ℕ → Option ℕ
-  pub open_block : Open
+  pub open_block : OpenBlock
   pub is : b ≡ Some open_block
   pub is_open : IsOpen ds k c us node open_block
 
@@ -292,8 +292,9 @@ pub left_block : (ds : Declarations) (k : ℕ) (c : Option ℕ) (us : List Menti
 left_block ds k c us gs s fs rest f h e =
     let ends = same_ends h.frames rest (record { size = length h.scope; block = Some h.open_block }) f (sym h.frames_are ∙ e) in
     let left : drop (length s - f.size) s ≡ h.scope =
-      ap (λ (g : kept.Frame). drop (length s - g.size) s) (sym ends.1)
-      ∙ ap (λ (v : Targets). drop (length v - length h.scope) v) h.scope_is
-      ∙ left_again h.front h.scope in
-    (record { node = h.node; open_block = h.open_block; is = ap (λ (g : kept.Frame). g.block) (sym ends.1); is_open = h.is_open },
-     subst (λ (v : Targets). InScope gs v rest) (sym left) (subst (λ (gs' : List kept.Frame). InScope gs h.scope gs') ends.0 h.below))
+    ap (λ (g : kept.Frame). drop (length s - g.size) s) (sym ends.1)
+    ∙ ap (λ (v : Targets). drop (length v - length h.scope) v) h.scope_is
+    ∙ left_again h.front h.scope in (
+      record { node = h.node; open_block = h.open_block; is = ap (λ (g : kept.Frame). g.block) (sym ends.1); is_open = h.is_open },
+      subst (λ (v : Targets). InScope gs v rest) (sym left) (subst (λ (gs' : List kept.Frame). InScope gs h.scope gs') ends.0 h.below),
+    )

@@ -13,9 +13,9 @@ none_needed b n = omega (arith, n.1)
 -- a node that needs something is in the graph
 pub needing_lies : (g : Nodes) (a b : ℕ) → Needs g a b → a < length g
 needing_lies g a b n = elim (cases_lt a (length g)) [
-    | inl lt ↦ lt
-    | inr ge ↦ absurd (none_needed b (subst (λ (xs : List ℕ). Contains xs b) (get_or_past g a [] ge) n))
-  ]
+  | inl lt ↦ lt
+  | inr ge ↦ absurd (none_needed b (subst (λ (xs : List ℕ). Contains xs b) (get_or_past g a [] ge) n))
+]
 
 -- one node more
 grown_same : (g : Nodes) (a : ℕ) → needs_of (g ++ [] ∷ []) a ≡ needs_of g a
@@ -42,18 +42,18 @@ module _ (g : Nodes) (f t : ℕ) (lies : f < length g) where
 
   pub linked_needs : (a b : ℕ) → Needs (linked g f t) a b → Needs g a b ⊎ ((a ≡ f) × (b ≡ t))
   linked_needs a b n = elim (cases_eq a f) [
-      | inl is ↦ elim (Contains-push_cases (needs_of g f) t b (subst (λ (xs : List ℕ). Contains xs b) (ap (needs_of (linked g f t)) is ∙ here) n)) [
-        | inl old ↦ inl (subst (λ (x : ℕ). Needs g x b) (sym is) old)
-        | inr same ↦ inr (is, sym same)
-      ]
-      | inr apart ↦ inl (subst (λ (xs : List ℕ). Contains xs b) (get_or-set_other g f a (needs_of g f ++ t ∷ []) [] apart) n)
+    | inl is ↦ elim (Contains-push_cases (needs_of g f) t b (subst (λ (xs : List ℕ). Contains xs b) (ap (needs_of (linked g f t)) is ∙ here) n)) [
+      | inl old ↦ inl (subst (λ (x : ℕ). Needs g x b) (sym is) old)
+      | inr same ↦ inr (is, sym same)
     ]
+    | inr apart ↦ inl (subst (λ (xs : List ℕ). Contains xs b) (get_or-set_other g f a (needs_of g f ++ t ∷ []) [] apart) n)
+  ]
 
   pub needs_before : (a b : ℕ) → Needs g a b → Needs (linked g f t) a b
   needs_before a b n = elim (cases_eq a f) [
-      | inl is ↦ subst (λ (x : ℕ). Needs (linked g f t) x b) (sym is) (subst (λ (xs : List ℕ). Contains xs b) (sym here) (Contains-append_left (needs_of g f) (t ∷ []) b (subst (λ (x : ℕ). Needs g x b) is n)))
-      | inr apart ↦ subst (λ (xs : List ℕ). Contains xs b) (sym (get_or-set_other g f a (needs_of g f ++ t ∷ []) [] apart)) n
-    ]
+    | inl is ↦ subst (λ (x : ℕ). Needs (linked g f t) x b) (sym is) (subst (λ (xs : List ℕ). Contains xs b) (sym here) (Contains-append_left (needs_of g f) (t ∷ []) b (subst (λ (x : ℕ). Needs g x b) is n)))
+    | inr apart ↦ subst (λ (xs : List ℕ). Contains xs b) (sym (get_or-set_other g f a (needs_of g f ++ t ∷ []) [] apart)) n
+  ]
 
   pub need_linked : Needs (linked g f t) f t
   need_linked = subst (λ (xs : List ℕ). Contains xs t) (sym here) (Contains-push (needs_of g f) t)

@@ -35,14 +35,14 @@ value_one : (c : Bool) (v : Option At) (b : Breach) → v ≡ Some b.at → b.ru
 value_one c v b e r set =
     subst (λ (w : Option At). IsOneOf b (needy_value c w)) (sym e)
     (subst (λ (d : Bool). IsOneOf b (needy_value d (Some b.at))) (sym set)
-     (inl (ap (λ (n : ℕ). breach n b.at) r)))
+    (inl (ap (λ (n : ℕ). breach n b.at) r)))
 
 set_noted : (cyclic : List Bool) (k : ℕ) (ds : Declarations) (b : Breach) → IsOneOf b (needy_values cyclic k ds) → IsSetAt cyclic k ds b
 set_noted cyclic k no_declaration b h = absurd h
 set_noted cyclic k (declaration d ds) b h = elim (one_of_either b (needy_value (get_or cyclic k false) (value_at d)) (needy_values cyclic (suc k) ds) h) [
-    | inl own ↦ (let v = one_value (get_or cyclic k false) (value_at d) b own in let same : k + 0 ≡ k = omega arith in (0, v.0, v.1, ap (λ (n : ℕ). get_or cyclic n false) same ∙ v.2))
-    | inr rest ↦ (let r = set_noted cyclic (suc k) ds b rest in let same : k + suc r.0 ≡ suc k + r.0 = omega arith in (suc r.0, r.1, r.2, ap (λ (n : ℕ). get_or cyclic n false) same ∙ r.3))
-  ]
+  | inl own ↦ (let v = one_value (get_or cyclic k false) (value_at d) b own in let same : k + 0 ≡ k = omega arith in (0, v.0, v.1, ap (λ (n : ℕ). get_or cyclic n false) same ∙ v.2))
+  | inr rest ↦ (let r = set_noted cyclic (suc k) ds b rest in let same : k + suc r.0 ≡ suc k + r.0 = omega arith in (suc r.0, r.1, r.2, ap (λ (n : ℕ). get_or cyclic n false) same ∙ r.3))
+]
 
 noted_set : (cyclic : List Bool) (number k : ℕ) (ds : Declarations) (b : Breach) → value_in (declaration_at number ds) ≡ Some b.at → b.rule ≡ 11 → get_or cyclic (k + number) false ≡ true → IsOneOf b (needy_values cyclic k ds)
 noted_set cyclic zero k no_declaration b e r set = absurd cc
@@ -66,10 +66,10 @@ cyclic_lies (b ∷ bs) (suc n) e = let rest = cyclic_lies bs n e in omega (arith
 
 pub are_noted : (g : Nodes) (cyclic : List Bool) (ds : Declarations) (old new : Found) → AreCyclic g cyclic → new ≡ all_noted old (needy_values cyclic 0 ds) → AreNoted g ds old new
 are_noted g cyclic ds old new h e = record {
-    breaches = needy_values cyclic 0 ds;
-    noted = e;
-    exactly = λ b. (to b, from b);
-  }
+  breaches = needy_values cyclic 0 ds;
+  noted = e;
+  exactly = λ b. (to b, from b);
+}
   where
     to : (b : Breach) → IsOneOf b (needy_values cyclic 0 ds) → IsCyclic g ds b
     to b any =
@@ -111,10 +111,10 @@ found_nothing = record { breaches = []; noted = refl; exactly = λ b. (λ h. h, 
 
 pub found_more : (ds : Declarations) (us : List Mention) (node : List ℕ → Option ℕ) (g : Nodes) (es : List Ended) (old new : Found) → IsGraph (count_declarations ds) (bound_from 0 ds) us node g → AreNoted g ds old new → HasFound es old → HasFound (es ++ record { declarations = ds; uses = us } ∷ []) new
 found_more ds us node g es old new graph n h = record {
-    breaches = h.breaches ++ n.breaches;
-    noted = n.noted ∙ ap (λ (f : Found). all_noted f n.breaches) h.noted ∙ sym (noted_joined nothing_found h.breaches n.breaches);
-    exactly = λ b. (to b, from b);
-  }
+  breaches = h.breaches ++ n.breaches;
+  noted = n.noted ∙ ap (λ (f : Found). all_noted f n.breaches) h.noted ∙ sym (noted_joined nothing_found h.breaches n.breaches);
+  exactly = λ b. (to b, from b);
+}
   where
     breaks : (b : Breach) → IsCyclic g ds b → Breaks (record { declarations = ds; uses = us }) b
     breaks b c = record { rule = c.rule; number = c.number; is_value = c.is_value; steps = to_steps (count_declarations ds) (bound_from 0 ds) us node g graph c.number (value_lies c.number ds b.at c.is_value) c.reaches }
@@ -124,15 +124,15 @@ found_more ds us node g es old new graph n h = record {
 
     to : (b : Breach) → IsOneOf b (h.breaches ++ n.breaches) → OneBreaks (es ++ record { declarations = ds; uses = us } ∷ []) b
     to b any = elim (one_of_either b h.breaches n.breaches any) [
-        | inl old' ↦ breaks_left es (record { declarations = ds; uses = us } ∷ []) b ((h.exactly b).0 old')
-        | inr new' ↦ breaks_right es (record { declarations = ds; uses = us } ∷ []) b (inl (breaks b ((n.exactly b).0 new')))
-      ]
+      | inl old' ↦ breaks_left es (record { declarations = ds; uses = us } ∷ []) b ((h.exactly b).0 old')
+      | inr new' ↦ breaks_right es (record { declarations = ds; uses = us } ∷ []) b (inl (breaks b ((n.exactly b).0 new')))
+    ]
 
     from : (b : Breach) → OneBreaks (es ++ record { declarations = ds; uses = us } ∷ []) b → IsOneOf b (h.breaches ++ n.breaches)
     from b any = elim (breaks_either es (record { declarations = ds; uses = us } ∷ []) b any) [
-        | inl old' ↦ one_of_left b h.breaches n.breaches ((h.exactly b).1 old')
-        | inr new' ↦ elim new' [ inl it ↦ one_of_right b h.breaches n.breaches ((n.exactly b).1 (cyclic b it)) | inr none ↦ absurd none ]
-      ]
+      | inl old' ↦ one_of_left b h.breaches n.breaches ((h.exactly b).1 old')
+      | inr new' ↦ elim new' [ inl it ↦ one_of_right b h.breaches n.breaches ((n.exactly b).1 (cyclic b it)) | inr none ↦ absurd none ]
+    ]
 
 -- ---- what has parameters
 

@@ -7,7 +7,7 @@ use Rattle.hdc_written.specs.Scopes.{standing_for}
 use Rattle.hdc_written.specs.Written.{Declarations, no_declaration, declaration}
 use Rattle.hdc_needs.specs.declared.bind.Target.{Target}
 use Rattle.hdc_needs.specs.declared.bind.Target.TheVariants as target
-use Rattle.hdc_needs.specs.declared.frames.Open.{Open}
+use Rattle.hdc_needs.specs.declared.frames.OpenBlock.{OpenBlock}
 use Rattle.hdc_needs.specs.declared.frames.Frame as kept
 use Rattle.hdc_needs.specs.Agrees.{IsGraph, located, OverBlock, InScope}
 use Rattle.hdc_needs.specs.Bind.{Targets, start, Named, known_if, known_node, bind_as, bind_one, bind_all}
@@ -41,7 +41,7 @@ known_located level (Some m) rest = refl
 known_is : (level n size : ℕ) (base : Targets) (ms : List Mention) (s : Targets) (g : Nodes) (h : IsBound level n base ms s g) → size ≡ length base → (t : List ℕ) → known_node size t s ≡ h.node t
 known_is level n size base ms s g h e t =
     let front : take (length s - size) s ≡ h.front =
-      ap (λ (k : ℕ). take (length s - k) s) e ∙ ap (λ (v : Targets). take (length v - length base) v) h.scope_is ∙ taken_front h.front base in
+    ap (λ (k : ℕ). take (length s - k) s) e ∙ ap (λ (v : Targets). take (length v - length base) v) h.scope_is ∙ taken_front h.front base in
     ap (λ (v : Targets). known_if (is_some (standing_for t v)) (standing_for t s)) front
     ∙ ap (λ b. known_if b (standing_for t s)) (h.since t)
     ∙ ap (known_if (is_some (h.node t))) (h.stands t)
@@ -87,7 +87,7 @@ bound_as level n base ms s g h m k wide number_lies ge lies is graph =
       stands = λ u. next_stands level h.node m.name.text k s base u (h.stands u);
       since = λ u. next_since level h.node m.name.text k h.front u (h.since u);
       graph = subst (λ (gg : Nodes). IsGraph n (ms ++ m ∷ []) [] (next_node h.node m.name.text k) gg) (sym (within_is wide k m.number lies in_graph))
-        (bound_more n ms h.node (next_node h.node m.name.text k) wide graph m k number_lies ge lies is (next_same h.node m.name.text k) (next_other h.node m.name.text k) (λ u. text_decided u m.name.text));
+          (bound_more n ms h.node (next_node h.node m.name.text k) wide graph m k number_lies ge lies is (next_same h.node m.name.text k) (next_other h.node m.name.text k) (λ u. text_decided u m.name.text));
     }
 
 bound_by : (level n : ℕ) (base : Targets) (ms : List Mention) (s : Targets) (g : Nodes) (h : IsBound level n base ms s g) (m : Mention) → m.number < n → (known : Option ℕ) → h.node m.name.text ≡ known → IsBound level n base (ms ++ m ∷ []) (bind_as level known m s g).scope (bind_as level known m s g).graph
@@ -129,26 +129,26 @@ unneeded ds a b need = none_needed b (subst (λ (xs : List ℕ). Contains xs b) 
 
 start_bound : (level : ℕ) (ds : Declarations) (base : Targets) → IsBound level (count_declarations ds) base [] base (start ds)
 start_bound level ds base = record {
-    front = [];
-    node = λ t. None;
-    scope_is = refl;
-    stands = λ t. refl;
-    since = λ t. refl;
-    graph = record {
-      enough = (let size = start_size ds in omega (arith, size));
-      inside = λ t m e. absurd cc;
-      apart = λ t u m e f. absurd cc;
-      known = λ a t h. absurd h;
-      only = λ t m e. absurd cc;
-      below = λ a t h. absurd h;
-      using = λ a m lt. (λ need. absurd (unneeded ds a m need), λ l. absurd l.mentioned);
-      binding = λ m a ge. (λ need. absurd (unneeded ds m a need), λ l. absurd l.mentioned);
-    };
-  }
+  front = [];
+  node = λ t. None;
+  scope_is = refl;
+  stands = λ t. refl;
+  since = λ t. refl;
+  graph = record {
+    enough = (let size = start_size ds in omega (arith, size));
+    inside = λ t m e. absurd cc;
+    apart = λ t u m e f. absurd cc;
+    known = λ a t h. absurd h;
+    only = λ t m e. absurd cc;
+    below = λ a t h. absurd h;
+    using = λ a m lt. (λ need. absurd (unneeded ds a m need), λ l. absurd l.mentioned);
+    binding = λ m a ge. (λ need. absurd (unneeded ds m a need), λ l. absurd l.mentioned);
+  };
+}
 
 -- ---- the block's frame
 
-pub kept_block : (ds : Declarations) (gs : List Frame) (s t : Targets) (fs : List kept.Frame) (o : Open) (ms : List Mention) (g : Nodes) → InScope gs s fs → ms ≡ bound_from 0 ds → g ≡ start ds → bind_all (length fs) (length s) ms s g ≡ record { scope = t; graph = o.graph } → declarations_of o.block ≡ ds → o.begun ≡ 0 → o.current ≡ None → OverBlock ds 0 None [] (InScope gs) t (fs ++ record { size = length s; block = Some o } ∷ [])
+pub kept_block : (ds : Declarations) (gs : List Frame) (s t : Targets) (fs : List kept.Frame) (o : OpenBlock) (ms : List Mention) (g : Nodes) → InScope gs s fs → ms ≡ bound_from 0 ds → g ≡ start ds → bind_all (length fs) (length s) ms s g ≡ record { scope = t; graph = o.graph } → declarations_of o.declarations ≡ ds → o.begun ≡ 0 → o.current ≡ None → OverBlock ds 0 None [] (InScope gs) t (fs ++ record { size = length s; block = Some o } ∷ [])
 kept_block ds gs s t fs o ms g h names starts e block begun current =
     let n = count_declarations ds in
     let whole : n ≡ n = refl in

@@ -76,16 +76,16 @@ has_mentions k (x ∷ xs) t (inr h) = inr (has_mentions k xs t h)
 pub has_binder : (k : ℕ) (ds : Declarations) (t : List ℕ) → HasText (all_bound ds) t → (a : ℕ) × Mentions (bound_from k ds) a t
 has_binder k no_declaration t h = absurd h
 has_binder k (declaration d ds) t h = elim (has_either (bound d) (all_bound ds) t h) [
-    | inl own ↦ (k, mentions_front (mentions k (bound d)) (bound_from (suc k) ds) k t (has_mentions k (bound d) t own))
-    | inr rest ↦ (let r = has_binder (suc k) ds t rest in (r.0, mentions_back (mentions k (bound d)) (bound_from (suc k) ds) r.0 t r.1))
-  ]
+  | inl own ↦ (k, mentions_front (mentions k (bound d)) (bound_from (suc k) ds) k t (has_mentions k (bound d) t own))
+  | inr rest ↦ (let r = has_binder (suc k) ds t rest in (r.0, mentions_back (mentions k (bound d)) (bound_from (suc k) ds) r.0 t r.1))
+]
 
 pub binder_has : (k : ℕ) (ds : Declarations) (a : ℕ) (t : List ℕ) → Mentions (bound_from k ds) a t → HasText (all_bound ds) t
 binder_has k no_declaration a t h = absurd h
 binder_has k (declaration d ds) a t h = elim (mentions_either (mentions k (bound d)) (bound_from (suc k) ds) a t h) [
-    | inl own ↦ has_front (bound d) (all_bound ds) t (mentions_has k (bound d) a t own).1
-    | inr rest ↦ has_back (bound d) (all_bound ds) t (binder_has (suc k) ds a t rest)
-  ]
+  | inl own ↦ has_front (bound d) (all_bound ds) t (mentions_has k (bound d) a t own).1
+  | inr rest ↦ has_back (bound d) (all_bound ds) t (binder_has (suc k) ds a t rest)
+]
 
 -- each number is below this one
 abbrev pub AllUnder : ℕ → List Mention → Type 0

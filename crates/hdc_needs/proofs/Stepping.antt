@@ -41,12 +41,14 @@ module _ (n : ℕ) (binds uses : List Mention) (node : List ℕ → Option ℕ) 
 
   way : {a b : ℕ} → Reaches g a b → b < n → (a < n → Steps (UsesOf binds uses) a b) × (n ≤ a → Onward binds uses g a b)
   way (one a b need) below = (
-      λ lt. (let l : LeadsTo uses node a b = (h.using a b lt).0 need in let lies = (h.inside l.text b l.stands).0 in absurd (omega (arith, lies, below))),
-      λ ge. (b, need, inl refl))
+    λ lt. (let l : LeadsTo uses node a b = (h.using a b lt).0 need in let lies = (h.inside l.text b l.stands).0 in absurd (omega (arith, lies, below))),
+    λ ge. (b, need, inl refl),
+  )
   way (further a c b need r) below =
       let rest = way r below in (
-      λ lt. by_use a c b ((h.using a c lt).0 need) rest.1,
-      λ ge. (let l : LeadsTo binds node c a = (h.binding a c ge).0 need in (c, need, inr (rest.0 (h.below c l.text l.mentioned)))))
+        λ lt. by_use a c b ((h.using a c lt).0 need) rest.1,
+        λ ge. (let l : LeadsTo binds node c a = (h.binding a c ge).0 need in (c, need, inr (rest.0 (h.below c l.text l.mentioned)))),
+      )
 
   one_step : (a b : ℕ) → UsesOf binds uses a b → a < n → (m : ℕ) × Needs g a m × Needs g m b
   one_step a b u lt =

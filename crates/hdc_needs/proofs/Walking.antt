@@ -146,9 +146,9 @@ declared_more d ds h g whole k c us fs done rest e =
     ∙ ap (run (each_declaration_events ds ++ (body ∷ rest))) (h (local whole (suc k) (Some k) us ∷ fs) done ∙ ap (λ hs. going hs more) (used_in whole (suc k) (Some k) (free_declaration d) us fs))
     ∙ g whole (suc k) (Some k) vs gs more rest next
     ∙ ap (λ hs. run rest (going (local whole (count_declarations whole) None (logged_declarations xs (suc k) ds vs) ∷ hs) (more ++ all_ended (each_declaration_blocks ds))))
-      (sym (used_joined (without xs (free_declaration d)) (without xs (free_declarations ds)) fs) ∙ ap (λ zs. use_all zs fs) (sym (without_joined xs (free_declaration d) (free_declarations ds))))
+    (sym (used_joined (without xs (free_declaration d)) (without xs (free_declarations ds)) fs) ∙ ap (λ zs. use_all zs fs) (sym (without_joined xs (free_declaration d) (free_declarations ds))))
     ∙ ap (λ all. run rest (going (local whole (count_declarations whole) None (logged_declarations xs (suc k) ds vs) ∷ use_all (without xs (free_declaration d ++ free_declarations ds)) fs) all))
-      (append_assoc done (all_ended (declaration_blocks d)) (all_ended (each_declaration_blocks ds)) ∙ ap (λ all. done ++ all) (sym (ended_joined (declaration_blocks d) (each_declaration_blocks ds))))
+    (append_assoc done (all_ended (declaration_blocks d)) (all_ended (each_declaration_blocks ds)) ∙ ap (λ all. done ++ all) (sym (ended_joined (declaration_blocks d) (each_declaration_blocks ds))))
 
 -- a block, and what it is for
 blocked : (ds : Declarations) (ys : List Name) (inner : List Event) (bs : List Declarations) → Declare ds → Does inner ys bs → Does (block ds ∷ (each_declaration_events ds ++ (body ∷ (inner ++ (closed ∷ []))))) (without (all_bound ds) (free_declarations ds ++ ys)) (each_declaration_blocks ds ++ (bs ++ (ds ∷ [])))
@@ -162,15 +162,15 @@ blocked ds ys inner bs g h fs done =
     g ds 0 None [] fs done (inner ++ (closed ∷ [])) same
     ∙ run_joined inner (closed ∷ []) (going (local ds n None us ∷ use_all zs fs) first)
     ∙ ap (run (closed ∷ []))
-      (h (local ds n None us ∷ use_all zs fs) first
-       ∙ ap (λ hs. going hs (first ++ all_ended bs)) (used_in ds n None ys us (use_all zs fs))
-       ∙ ap (λ vs. going (local ds n None vs ∷ use_all (without xs ys) (use_all zs fs)) (first ++ all_ended bs)) (unlogged xs ys us))
+    (h (local ds n None us ∷ use_all zs fs) first
+    ∙ ap (λ hs. going hs (first ++ all_ended bs)) (used_in ds n None ys us (use_all zs fs))
+    ∙ ap (λ vs. going (local ds n None vs ∷ use_all (without xs ys) (use_all zs fs)) (first ++ all_ended bs)) (unlogged xs ys us))
     ∙ ap (λ hs. going hs ((first ++ all_ended bs) ++ (ended ds ∷ []))) (sym (used_joined zs (without xs ys) fs) ∙ ap (λ vs. use_all vs fs) (sym (without_joined xs (free_declarations ds) ys)))
     ∙ ap (going (use_all (without xs (free_declarations ds ++ ys)) fs))
-      (append_assoc first (all_ended bs) (ended ds ∷ [])
-       ∙ append_assoc done (all_ended (each_declaration_blocks ds)) (all_ended bs ++ (ended ds ∷ []))
-       ∙ ap (λ all. done ++ (all_ended (each_declaration_blocks ds) ++ all)) (sym (ended_joined bs (ds ∷ [])))
-       ∙ ap (λ all. done ++ all) (sym (ended_joined (each_declaration_blocks ds) (bs ++ (ds ∷ [])))))
+    (append_assoc first (all_ended bs) (ended ds ∷ [])
+    ∙ append_assoc done (all_ended (each_declaration_blocks ds)) (all_ended bs ++ (ended ds ∷ []))
+    ∙ ap (λ all. done ++ (all_ended (each_declaration_blocks ds) ++ all)) (sym (ended_joined bs (ds ∷ [])))
+    ∙ ap (λ all. done ++ all) (sym (ended_joined (each_declaration_blocks ds) (bs ++ (ds ∷ [])))))
 
 -- ---- patterns and operators
 
@@ -338,6 +338,6 @@ ran_tops (top.Equation h r ∷ ts) done =
     let bs = right_side_blocks (rhs_of r) in
     ap (run_tops ts)
     (grouped xs ys (each_matches (head_patterns h)) (right_side_events (rhs_of r)) bs (quiet_each_matches (head_patterns h)) (ran_right_side (rhs_of r)) [] done
-     ∙ ap (λ fs. going fs (done ++ all_ended bs)) (used_nowhere (without xs ys)))
+    ∙ ap (λ fs. going fs (done ++ all_ended bs)) (used_nowhere (without xs ys)))
     ∙ ran_tops ts (done ++ all_ended bs)
     ∙ ap (going []) (append_assoc done (all_ended bs) (all_ended (text_blocks ts)) ∙ ap (λ all. done ++ all) (sym (ended_joined bs (text_blocks ts))))

@@ -9,7 +9,7 @@ use Rattle.hdc_written.specs.Scopes.{standing_for, bound_to}
 use Rattle.hdc_written.specs.Written.{Declarations}
 use Rattle.hdc_needs.specs.declared.bind.Target.{Target}
 use Rattle.hdc_needs.specs.declared.bind.Target.TheVariants as target
-use Rattle.hdc_needs.specs.declared.frames.Open.{Open}
+use Rattle.hdc_needs.specs.declared.frames.OpenBlock.{OpenBlock}
 use Rattle.hdc_needs.specs.declared.frames.Frame as kept
 use Rattle.hdc_needs.specs.declared.walk.Walk.{Walk}
 use Rattle.hdc_needs.specs.Bind.{Targets}
@@ -37,8 +37,8 @@ pub record IsGraph (count : ℕ) (binds uses : List Mention) (node : List ℕ �
   pub binding : (m a : ℕ) → count ≤ m → Needs g m a ↔ LeadsTo binds node a m
 
 -- a block that is gone through
-pub record IsOpen (ds : Declarations) (begun : ℕ) (current : Option ℕ) (uses : List Mention) (node : List ℕ → Option ℕ) (o : Open) : Type 0 where
-  pub block_is : declarations_of o.block ≡ ds
+pub record IsOpen (ds : Declarations) (begun : ℕ) (current : Option ℕ) (uses : List Mention) (node : List ℕ → Option ℕ) (o : OpenBlock) : Type 0 where
+  pub block_is : declarations_of o.declarations ≡ ds
   pub begun_is : o.begun ≡ begun
   pub current_is : o.current ≡ current
   pub under : (i : ℕ) → current ≡ Some i → i < count_declarations ds
@@ -63,7 +63,7 @@ pub record OverBlock (ds : Declarations) (begun : ℕ) (current : Option ℕ) (u
   pub frames : List kept.Frame
   pub front : Targets
   pub node : List ℕ → Option ℕ
-  pub open_block : Open
+  pub open_block : OpenBlock
   pub scope_is : s ≡ front ++ scope
   pub stands : (t : List ℕ) → standing_for t s ≡ located (length frames) (node t) (standing_for t scope)
   pub frames_are : fs ≡ frames ++ record { size = length scope; block = Some open_block } ∷ []

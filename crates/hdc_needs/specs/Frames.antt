@@ -1,7 +1,7 @@
 -- What happens to the frames that the code keeps.
 use Rattle.std.specs.Prelude.{ℕ, ◌+◌, nat_lt, [], ◌∷◌, ◌++◌, length, slice_set, Option, None, Some, if◌then◌else◌}
 use Rattle.hdc_graph.specs.Needs.{Nodes, needs_of}
-use Rattle.hdc_needs.specs.declared.frames.Open.{Open}
+use Rattle.hdc_needs.specs.declared.frames.OpenBlock.{OpenBlock}
 use Rattle.hdc_needs.specs.declared.frames.Frame.{Frame}
 
 -- one need more
@@ -16,16 +16,16 @@ abbrev pub needing_by : Option ℕ → ℕ → Nodes → Nodes
 needing_by None node g = g
 needing_by (Some from) node g = linked_within g from node
 
-abbrev pub needing : ℕ → Open → Open
-needing node o = record { block = o.block; graph = needing_by o.current node o.graph; begun = o.begun; current = o.current }
+abbrev pub needing : ℕ → OpenBlock → OpenBlock
+needing node o = record { declarations = o.declarations; graph = needing_by o.current node o.graph; begun = o.begun; current = o.current }
 
-abbrev pub beginning : Open → Open
-beginning o = record { block = o.block; graph = o.graph; begun = o.begun + 1; current = Some o.begun }
+abbrev pub beginning : OpenBlock → OpenBlock
+beginning o = record { declarations = o.declarations; graph = o.graph; begun = o.begun + 1; current = Some o.begun }
 
-abbrev pub going_behind : Open → Open
-going_behind o = record { block = o.block; graph = o.graph; begun = o.begun; current = None }
+abbrev pub going_behind : OpenBlock → OpenBlock
+going_behind o = record { declarations = o.declarations; graph = o.graph; begun = o.begun; current = None }
 
-abbrev pub in_block : (Open → Open) → Option Open → Option Open
+abbrev pub in_block : (OpenBlock → OpenBlock) → Option OpenBlock → Option OpenBlock
 in_block f None = None
 in_block f (Some o) = Some (f o)
 

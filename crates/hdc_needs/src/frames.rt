@@ -13,14 +13,14 @@ use std::marker::Model;
 /// The first nodes of the graph are the declarations, the others names that they bind. A declaration needs the names
 /// that it uses, and a name the declarations that bind it.
 #[derive(Drop)]
-pub(crate) struct Open<'t> {
-    pub(crate) block: Option<&'t Block>,
+pub(crate) struct OpenBlock<'t> {
+    pub(crate) declarations: Option<&'t Block>,
     pub(crate) graph: Graph,
     pub(crate) begun: u32,
     pub(crate) current: Option<u32>,
 }
 
-impl<'t> Open<'t> {
+impl<'t> OpenBlock<'t> {
     // The declaration that is gone through needs a node.
     fn need(&mut self, node: u32) -> Result<(), AllocError>
         ensures { OnOk result (self.new ≡ spec.needing node self.old) }
@@ -68,7 +68,7 @@ pub(crate) fn add_need(graph: &mut Graph, from: u32, to: u32) -> Result<(), Allo
 #[derive(Drop)]
 pub(crate) struct Frame<'t> {
     pub(crate) size: usize,
-    pub(crate) block: Option<Open<'t>>,
+    pub(crate) block: Option<OpenBlock<'t>>,
 }
 
 impl<'t> Frame<'t> {
@@ -76,7 +76,7 @@ impl<'t> Frame<'t> {
         ensures { OnOk result (self.new ≡ spec.frame_needing node self.old) }
     {
         match &mut self.block {
-            Some(open) => open.need(node),
+            Some(block) => block.need(node),
             None => Ok(()),
         }
     }
@@ -85,7 +85,7 @@ impl<'t> Frame<'t> {
         ensures { OnOk result (self.new ≡ spec.frame_beginning self.old) }
     {
         match &mut self.block {
-            Some(open) => open.begin(),
+            Some(block) => block.begin(),
             None => Ok(()),
         }
     }
@@ -93,8 +93,8 @@ impl<'t> Frame<'t> {
     fn go_behind(&mut self)
         ensures { self.new ≡ spec.frame_going_behind self.old }
     {
-        if let Some(open) = &mut self.block {
-            open.go_behind();
+        if let Some(block) = &mut self.block {
+            block.go_behind();
         }
     }
 }
@@ -108,7 +108,6 @@ pub(crate) struct Frames<'t> {
 impl<'t> Model for Frames<'t> {
     ghost use Rattle.std.specs.Prelude.{List};
     ghost use Rattle.hdc_needs.specs.declared.frames.Frame.{Frame};
-
     ghost use Rattle.hdc_tree.specs.contracts.expression.Block as block;
     ghost use Rattle.std.specs.Coded.{codes};
 

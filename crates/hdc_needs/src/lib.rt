@@ -14,6 +14,8 @@ mod bind;
 mod frames;
 mod names;
 mod needy;
+#[cfg(test)]
+mod tests;
 mod values;
 mod walk;
 

@@ -7,7 +7,7 @@ ghost use Rattle.hdc_needs.specs.Kept.{declarations_of};
 ghost use Rattle.hdc_needs.specs.Needy.{value_at};
 ghost use Rattle.hdc_needs.specs.Values as spec;
 
-use crate::frames::Open;
+use crate::frames::OpenBlock;
 use crate::names::next_number;
 use hdc_base::At;
 use hdc_graph::find_components;
@@ -16,14 +16,14 @@ use hdc_written::{Found, first_of_head, first_of_pat};
 use std::alloc::{AllocError, Global};
 
 /// The values of a block that need themselves.
-pub(crate) fn note_needy(alloc: Global, found: &mut Found, open: &Open) -> Result<(), AllocError>
-    ensures { OnOk result (spec.AreNoted open.now.graph (declarations_of open.now.block) found.old found.new) }
+pub(crate) fn note_needy(alloc: Global, found: &mut Found, block: &OpenBlock) -> Result<(), AllocError>
+    ensures { OnOk result (spec.AreNoted block.now.graph (declarations_of block.now.declarations) found.old found.new) }
 {
-    if open.graph.len() > MOST_NODES {
+    if block.graph.len() > MOST_NODES {
         return Err(AllocError);
     }
-    let components = find_components(alloc, &open.graph)?;
-    note_values(found, components.cyclic.as_slice(), open.block)
+    let components = find_components(alloc, &block.graph)?;
+    note_values(found, components.cyclic.as_slice(), block.declarations)
 }
 
 const MOST_NODES: usize = 4_294_967_296;

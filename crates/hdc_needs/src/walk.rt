@@ -9,7 +9,7 @@ ghost use Rattle.hdc_needs.specs.Kept.{declarations_of};
 ghost use Rattle.hdc_needs.specs.Walk as spec;
 
 use crate::bind::{Target, bind_names, start_graph};
-use crate::frames::{Frame, Frames, Open};
+use crate::frames::{Frame, Frames, OpenBlock};
 use crate::names::bound_names;
 use crate::values::note_needy;
 use hdc_tree::{Block, Name, NextTop, Top, Tree};
@@ -145,15 +145,15 @@ impl<'t> Walk<'t> {
             size,
             names.as_slice(),
         )?;
-        let open = Open {
-            block,
+        let opened = OpenBlock {
+            declarations: block,
             graph,
             begun: 0,
             current: None,
         };
         self.frames.push(Frame {
             size,
-            block: Some(open),
+            block: Some(opened),
         })
     }
 
@@ -180,7 +180,7 @@ impl<'t> Walk<'t> {
             Some(frame) => {
                 self.scope.leave(frame.size);
                 match frame.block {
-                    Some(open) => note_needy(alloc, &mut self.found, &open),
+                    Some(block) => note_needy(alloc, &mut self.found, &block),
                     None => Ok(()),
                 }
             }
