@@ -3,6 +3,7 @@
 ghost use Rattle.std.specs.Prelude.{◌≡◌, ◌<◌, ◌-◌, [], ◌∷◌, ◌++◌, length, slice_index_or, slice_set, OnOk, MatchOption};
 ghost use Rattle.hdc_needs.specs.Frames as spec;
 
+use crate::names::next_number;
 use hdc_graph::Graph;
 use hdc_tree::Block;
 use std::alloc::{AllocError, Global};
@@ -35,14 +36,10 @@ impl<'t> OpenBlock<'t> {
     fn begin(&mut self) -> Result<(), AllocError>
         ensures { OnOk result (self.new ≡ spec.beginning self.old) }
     {
+        let next = next_number(self.begun)?;
         self.current = Some(self.begun);
-        match self.begun.checked_add(1) {
-            Some(begun) => {
-                self.begun = begun;
-                Ok(())
-            }
-            None => Err(AllocError),
-        }
+        self.begun = next;
+        Ok(())
     }
 
     // No declaration is gone through any more.

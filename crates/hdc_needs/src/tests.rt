@@ -3,8 +3,8 @@
 use super::find_needy;
 use hdc_base::{At, Text};
 use hdc_tree::{
-    Aexp, Apat, Apply, Block, Decl, Expression, Head, ModuleHead, Name, NextDecl, Operand, Rhs, Sign, Top,
-    Tree, Var, Where,
+    Aexp, Apat, Apply, Block, Decl, Expression, Head, ModuleHead, Name, NextDecl, Operand, Rhs,
+    Sign, Top, Tree, Var, Where,
 };
 use hdc_written::Breach;
 use sqlite_items::{Boxed, Items};
@@ -48,15 +48,23 @@ fn lambda(alloc: Global, col: u32, parameter: &str, text: &str) -> Result<Expres
 
 // `text = exp`
 fn value(alloc: Global, col: u32, text: &str, exp: Expression) -> Result<Decl, Fail> {
-    let head = Head::Prefix(Var::Plain(name(alloc, col, text)?), Items::new(alloc));
-    let right = Rhs::Equal(at(col), Boxed::new(alloc, exp)?, Where::Absent);
-    Ok(Decl::Equation(head, right))
+    equation(alloc, col, text, Items::new(alloc), exp)
 }
 
-// `text x = exp`
+// `text _ = exp`
 fn function(alloc: Global, col: u32, text: &str, exp: Expression) -> Result<Decl, Fail> {
     let mut parameters = Items::new(alloc);
-    parameters.push(Apat::Var(name(alloc, col, "x")?))?;
+    parameters.push(Apat::Wildcard(at(col)))?;
+    equation(alloc, col, text, parameters, exp)
+}
+
+fn equation(
+    alloc: Global,
+    col: u32,
+    text: &str,
+    parameters: Items<Apat>,
+    exp: Expression,
+) -> Result<Decl, Fail> {
     let head = Head::Prefix(Var::Plain(name(alloc, col, text)?), parameters);
     let right = Rhs::Equal(at(col), Boxed::new(alloc, exp)?, Where::Absent);
     Ok(Decl::Equation(head, right))
@@ -70,8 +78,8 @@ fn next(rest: &mut Items<NextDecl>, decl: Decl) -> Result<(), Fail> {
     Ok(())
 }
 
-// The place of the first value that needs itself in `f = a where { first; rest }`.
-fn needy(alloc: Global, first: Decl, rest: Items<NextDecl>) -> Result<Option<Breach>, Fail> {
+// `f = a where { first; rest }`
+fn text(alloc: Global, first: Decl, rest: Items<NextDecl>) -> Result<Top, Fail> {
     let block = Block {
         open_at: at(1),
         first: Boxed::new(alloc, first)?,
@@ -81,10 +89,15 @@ fn needy(alloc: Global, first: Decl, rest: Items<NextDecl>) -> Result<Option<Bre
     let body = Boxed::new(alloc, variable(alloc, 1, "a")?)?;
     let right = Rhs::Equal(at(1), body, Where::Present(at(1), block));
     let head = Head::Prefix(Var::Plain(name(alloc, 1, "f")?), Items::new(alloc));
+    Ok(Top::Equation(head, right))
+}
+
+// The place of the first value that needs itself in it.
+fn needy(alloc: Global, first: Decl, rest: Items<NextDecl>) -> Result<Option<Breach>, Fail> {
     let tree = Tree {
         head: Boxed::new(alloc, ModuleHead::Absent)?,
         open_at: at(1),
-        first: Boxed::new(alloc, Top::Equation(head, right))?,
+        first: Boxed::new(alloc, text(alloc, first, rest)?)?,
         rest: Items::new(alloc),
         close_at: at(1),
     };
@@ -108,7 +121,7 @@ fn value_needs_itself(rt: HostRuntime) -> Result<(), Fail> {
     Ok(())
 }
 
-// `g x = a`, `a = g`
+// `g _ = a`, `a = g`
 #[test]
 fn value_needs_itself_through_a_function(rt: HostRuntime) -> Result<(), Fail> {
     let alloc = rt.alloc();
@@ -120,7 +133,7 @@ fn value_needs_itself_through_a_function(rt: HostRuntime) -> Result<(), Fail> {
     Ok(())
 }
 
-// `a x = a`
+// `a _ = a`
 #[test]
 fn function_may_need_itself(rt: HostRuntime) -> Result<(), Fail> {
     let alloc = rt.alloc();

@@ -16,7 +16,11 @@ use hdc_written::{Found, first_of_head, first_of_pat};
 use std::alloc::{AllocError, Global};
 
 /// The values of a block that need themselves.
-pub(crate) fn note_needy(alloc: Global, found: &mut Found, block: &OpenBlock) -> Result<(), AllocError>
+pub(crate) fn note_needy(
+    alloc: Global,
+    found: &mut Found,
+    block: &OpenBlock,
+) -> Result<(), AllocError>
     ensures { OnOk result (spec.AreNoted block.now.graph (declarations_of block.now.declarations) found.old found.new) }
 {
     if block.graph.len() > MOST_NODES {
