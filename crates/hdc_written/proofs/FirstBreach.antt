@@ -1,10 +1,10 @@
 -- The first breach of a list.
-use Rattle.std.proofs.Common.{◌≡◌, ◌⊎◌, ◌<◌, ◌≤◌, ℕ, ◌==◌, nat_lt, Bool, true, false, List, [], ◌∷◌, ◌++◌, Option, Some, None, if◌then◌else◌, refl, ap, subst, ◌∙◌, inl, inr, arith}
+use Rattle.std.proofs.Common.{◌≡◌, ◌⊎◌, ◌<◌, ◌≤◌, ℕ, ◌==◌, nat_lt, Bool, true, false, List, [], ◌∷◌, ◌++◌, Option, Some, None, if◌then◌else◌, refl, sym, ap, subst, ◌∙◌, inl, inr, arith}
 use Rattle.std.proofs.lemmas.Bool.{eqb-true, eqb-false, ltb-true, ltb-false}
 use Rattle.hdc_base.specs.declared.place.At.{At}
 use Rattle.hdc_written.specs.declared.breach.Breach.{Breach}
 use Rattle.hdc_written.specs.declared.breach.Found.{Found}
-use Rattle.hdc_written.specs.Breaches.{ComesBefore, IsFirst, IsOneOf, comes_before, nothing_found, first_of, noted, all_noted}
+use Rattle.hdc_written.specs.Breaches.{ComesBefore, IsFirst, IsOneOf, comes_before, nothing_found, first_of, noted, all_noted, joined_with}
 
 -- one list behind another
 pub noted_joined : (f : Found) (bs cs : List Breach) → all_noted f (bs ++ cs) ≡ all_noted (all_noted f bs) cs
@@ -40,6 +40,40 @@ less_both l1 c1 r1 l2 c2 r2 l3 c3 r3 (inr (d, inl h)) (inr (e, inr g)) = let f =
 less_both l1 c1 r1 l2 c2 r2 l3 c3 r3 (inr (d, inr h)) (inr (e, inl g)) = let f = h.0 in inr (d ∙ e, inl (omega (arith, f, g)))
 less_both l1 c1 r1 l2 c2 r2 l3 c3 r3 (inr (d, inr h)) (inr (e, inr g)) = let f = h.1 in let k = g.1 in inr (d ∙ e, inr (h.0 ∙ g.0, omega (arith, f, k)))
 
+which_less : (m n : ℕ) → (m < n) ⊎ ((m ≡ n) ⊎ (n < m))
+which_less m n = by (nat_lt m n) (nat_lt n m) refl refl
+  where
+    by : (s t : Bool) → nat_lt m n ≡ s → nat_lt n m ≡ t → (m < n) ⊎ ((m ≡ n) ⊎ (n < m))
+    by true t e f = inl (ltb-true m n e)
+    by false true e f = inr (inr (ltb-true n m f))
+    by false false e f = let g : n ≤ m = ltb-false m n e in let h : m ≤ n = ltb-false n m f in inr (inl (omega (arith, g, h)))
+
+abbrev Below : ℕ → ℕ → ℕ → ℕ → ℕ → ℕ → Type 0
+Below l1 c1 r1 l2 c2 r2 = (l1 < l2) ⊎ ((l1 ≡ l2) × ((c1 < c2) ⊎ ((c1 ≡ c2) × (r1 < r2))))
+
+below_through : (l1 c1 r1 l2 c2 r2 l3 c3 r3 : ℕ) → Below l1 c1 r1 l2 c2 r2 → (Below l3 c3 r3 l2 c2 r2 → ⊥) → Below l1 c1 r1 l3 c3 r3
+below_through l1 c1 r1 l2 c2 r2 l3 c3 r3 h never = lines (which_less l3 l2) h
+  where
+    rules : l3 ≡ l2 → c3 ≡ c2 → (r3 < r2) ⊎ ((r3 ≡ r2) ⊎ (r2 < r3)) → Below l1 c1 r1 l2 c2 r2 → Below l1 c1 r1 l3 c3 r3
+    rules e f (inl k) g = absurd (never (inr (e, inr (f, k))))
+    rules e f (inr k) (inl g) = inl (omega (arith, g, e))
+    rules e f (inr k) (inr (d, inl g)) = inr (d ∙ sym e, inl (omega (arith, g, f)))
+    rules e f (inr (inl k)) (inr (d, inr g)) = let m = g.1 in inr (d ∙ sym e, inr (g.0 ∙ sym f, omega (arith, m, k)))
+    rules e f (inr (inr k)) (inr (d, inr g)) = let m = g.1 in inr (d ∙ sym e, inr (g.0 ∙ sym f, omega (arith, m, k)))
+
+    columns : l3 ≡ l2 → (c3 < c2) ⊎ ((c3 ≡ c2) ⊎ (c2 < c3)) → Below l1 c1 r1 l2 c2 r2 → Below l1 c1 r1 l3 c3 r3
+    columns e (inl k) g = absurd (never (inr (e, inl k)))
+    columns e (inr (inl k)) g = rules e k (which_less r3 r2) g
+    columns e (inr (inr k)) (inl g) = inl (omega (arith, g, e))
+    columns e (inr (inr k)) (inr (d, inl g)) = inr (d ∙ sym e, inl (omega (arith, g, k)))
+    columns e (inr (inr k)) (inr (d, inr g)) = let m = g.0 in inr (d ∙ sym e, inl (omega (arith, m, k)))
+
+    lines : (l3 < l2) ⊎ ((l3 ≡ l2) ⊎ (l2 < l3)) → Below l1 c1 r1 l2 c2 r2 → Below l1 c1 r1 l3 c3 r3
+    lines (inl k) g = absurd (never (inl k))
+    lines (inr (inl k)) g = columns k (which_less c3 c2) g
+    lines (inr (inr k)) (inl g) = inl (omega (arith, g, k))
+    lines (inr (inr k)) (inr (d, g)) = inl (omega (arith, d, k))
+
 never_less : (l c r : ℕ) → (l < l) ⊎ ((l ≡ l) × ((c < c) ⊎ ((c ≡ c) × (r < r)))) → ⊥
 never_less l c r (inl h) = omega (arith, h)
 never_less l c r (inr (e, inl h)) = omega (arith, h)
@@ -50,6 +84,10 @@ before_both a b c h g = of_less a c (less_both a.at.line a.at.col a.rule b.at.li
 
 pub never_before : (a : Breach) → ComesBefore a a → ⊥
 never_before a h = never_less a.at.line a.at.col a.rule (less_of a a h)
+
+before_through : (a b c : Breach) → ComesBefore a b → (ComesBefore c b → ⊥) → ComesBefore a c
+before_through a b c h never =
+    of_less a c (below_through a.at.line a.at.col a.rule b.at.line b.at.col b.rule c.at.line c.at.col c.rule (less_of a b h) (λ g. never (of_less c b g)))
 
 -- ---- what the code compares
 
@@ -182,3 +220,38 @@ one_of_either b (a ∷ bs) cs (inr h) = by (one_of_either b bs cs h)
     by : IsOneOf b bs ⊎ IsOneOf b cs → IsOneOf b (a ∷ bs) ⊎ IsOneOf b cs
     by (inl k) = inl (inr k)
     by (inr k) = inr k
+
+-- ---- what was found in one way and in another
+
+both_first : (P Q : Breach → Type 0) (a b : Breach) → IsFirst P (Some a) → IsFirst Q (Some b) → (t : Bool) → comes_before b a ≡ t → IsFirst (λ c. P c ⊎ Q c) (Some (if t then b else a))
+both_first P Q a b first second true h = (inr second.0, none)
+  where
+    none : (c : Breach) → P c ⊎ Q c → ComesBefore c b → ⊥
+    none c (inl p) before = first.1 c p (before_both c b a before (decided b a true h))
+    none c (inr q) before = second.1 c q before
+both_first P Q a b first second false h = (inl first.0, none)
+  where
+    none : (c : Breach) → P c ⊎ Q c → ComesBefore c a → ⊥
+    none c (inl p) before = first.1 c p before
+    none c (inr q) before = second.1 c q (before_through c a b before (decided b a false h))
+
+pub first_of_both : (P Q : Breach → Type 0) (f : Found) (s : Option Breach) → IsFirst P f.breach → IsFirst Q s → IsFirst (λ c. P c ⊎ Q c) (joined_with f s).breach
+first_of_both P Q f s first second = by f.breach s first second
+  where
+    none_of : (c : Breach) → IsFirst P None → IsFirst Q None → P c ⊎ Q c → ⊥
+    none_of c h g (inl p) = h c p
+    none_of c h g (inr q) = g c q
+
+    only_left : (a c : Breach) → IsFirst P (Some a) → IsFirst Q None → P c ⊎ Q c → ComesBefore c a → ⊥
+    only_left a c h g (inl p) before = h.1 c p before
+    only_left a c h g (inr q) before = g c q
+
+    only_right : (b c : Breach) → IsFirst P None → IsFirst Q (Some b) → P c ⊎ Q c → ComesBefore c b → ⊥
+    only_right b c h g (inl p) before = h c p
+    only_right b c h g (inr q) before = g.1 c q before
+
+    by : (r t : Option Breach) → IsFirst P r → IsFirst Q t → IsFirst (λ c. P c ⊎ Q c) (joined_with (record { breach = r }) t).breach
+    by None None h g = λ c either. none_of c h g either
+    by (Some a) None h g = (inl h.0, λ c either before. only_left a c h g either before)
+    by None (Some b) h g = (inr g.0, λ c either before. only_right b c h g either before)
+    by (Some a) (Some b) h g = both_first P Q a b h g (comes_before b a) refl

@@ -45,3 +45,11 @@ noted f b = record { breach = Some (first_of f.breach b) }
 abbrev pub all_noted : Found → List Breach → Found
 all_noted f [] = f
 all_noted f (b ∷ bs) = all_noted (noted f b) bs
+
+-- what was found in one way and in another
+abbrev pub joined_with : Found → Option Breach → Found
+joined_with f None = f
+joined_with f (Some b) = noted f b
+
+abbrev pub joined : Found → Found → Found
+joined f g = joined_with f g.breach

@@ -38,6 +38,16 @@ impl Found {
         };
         self.breach = Some(first);
     }
+
+    /// The first of what was found here and there.
+    pub fn join(mut self, other: Found) -> Found
+        ensures { result ≡ spec.joined self other }
+    {
+        if let Some(breach) = other.breach {
+            self.note(breach.rule, breach.at);
+        }
+        self
+    }
 }
 
 // Whether a breach comes before another.
