@@ -1,5 +1,5 @@
 -- Whether a prelude and a program keep the rules on chains, depths and names; and where the first rule is broken.
-use Rattle.std.specs.Prelude.{◌⊎◌, List, [], Option, Some, None, Result, Ok, Err}
+use Rattle.std.specs.Prelude.{◌⊎◌, List, [], Some, None, Result, Ok, Err}
 use Rattle.hdc_tree.specs.declared.program.Top.{Top}
 use Rattle.hdc_written.specs.declared.breach.Breach.{Breach}
 use Rattle.hdc_written.specs.Breaches.{IsFirst, IsOneOf}
