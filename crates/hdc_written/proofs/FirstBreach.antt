@@ -74,6 +74,24 @@ below_through l1 c1 r1 l2 c2 r2 l3 c3 r3 h never = lines (which_less l3 l2) h
     lines (inr (inr k)) (inl g) = inl (omega (arith, g, k))
     lines (inr (inr k)) (inr (d, g)) = inl (omega (arith, d, k))
 
+none_below : (l1 c1 r1 l2 c2 r2 : ℕ) → (Below l1 c1 r1 l2 c2 r2 → ⊥) → (Below l2 c2 r2 l1 c1 r1 → ⊥) → (l1 ≡ l2) × (c1 ≡ c2) × (r1 ≡ r2)
+none_below l1 c1 r1 l2 c2 r2 h g = lines (which_less l1 l2)
+  where
+    rules : l1 ≡ l2 → c1 ≡ c2 → (r1 < r2) ⊎ ((r1 ≡ r2) ⊎ (r2 < r1)) → (l1 ≡ l2) × (c1 ≡ c2) × (r1 ≡ r2)
+    rules d e (inl k) = absurd (h (inr (d, inr (e, k))))
+    rules d e (inr (inl k)) = (d, e, k)
+    rules d e (inr (inr k)) = absurd (g (inr (sym d, inr (sym e, k))))
+
+    columns : l1 ≡ l2 → (c1 < c2) ⊎ ((c1 ≡ c2) ⊎ (c2 < c1)) → (l1 ≡ l2) × (c1 ≡ c2) × (r1 ≡ r2)
+    columns d (inl k) = absurd (h (inr (d, inl k)))
+    columns d (inr (inl k)) = rules d k (which_less r1 r2)
+    columns d (inr (inr k)) = absurd (g (inr (sym d, inl k)))
+
+    lines : (l1 < l2) ⊎ ((l1 ≡ l2) ⊎ (l2 < l1)) → (l1 ≡ l2) × (c1 ≡ c2) × (r1 ≡ r2)
+    lines (inl k) = absurd (h (inl k))
+    lines (inr (inl k)) = columns k (which_less c1 c2)
+    lines (inr (inr k)) = absurd (g (inl k))
+
 never_less : (l c r : ℕ) → (l < l) ⊎ ((l ≡ l) × ((c < c) ⊎ ((c ≡ c) × (r < r)))) → ⊥
 never_less l c r (inl h) = omega (arith, h)
 never_less l c r (inr (e, inl h)) = omega (arith, h)
@@ -88,6 +106,18 @@ never_before a h = never_less a.at.line a.at.col a.rule (less_of a a h)
 before_through : (a b c : Breach) → ComesBefore a b → (ComesBefore c b → ⊥) → ComesBefore a c
 before_through a b c h never =
     of_less a c (below_through a.at.line a.at.col a.rule b.at.line b.at.col b.rule c.at.line c.at.col c.rule (less_of a b h) (λ g. never (of_less c b g)))
+
+same_breach : (a b : Breach) → (ComesBefore a b → ⊥) → (ComesBefore b a → ⊥) → a ≡ b
+same_breach a b h g =
+    let same = none_below a.at.line a.at.col a.rule b.at.line b.at.col b.rule (λ k. h (of_less a b k)) (λ k. g (of_less b a k)) in
+    ap (λ n. record { rule = n; at = a.at }) same.2 ∙ ap (λ (p : At). record { rule = b.rule; at = p }) (same_at a.at b.at same.0 same.1)
+
+-- there is one first breach at most
+pub first_once : (Broken : Breach → Type 0) (r s : Option Breach) → IsFirst Broken r → IsFirst Broken s → r ≡ s
+first_once Broken None None h g = refl
+first_once Broken None (Some b) h g = absurd (h b g.0)
+first_once Broken (Some a) None h g = absurd (g a h.0)
+first_once Broken (Some a) (Some b) h g = ap Some (same_breach a b (g.1 a h.0) (h.1 b g.0))
 
 -- ---- what the code compares
 
