@@ -1,0 +1,12 @@
+pub mod Walking
+pub mod Naming
+pub mod Stepping
+pub mod Linking
+pub mod Graphs
+pub mod Stands
+pub mod Keeping
+pub mod Opening
+pub mod Noting
+pub mod Results
+pub mod Finding
+pub mod Describing

@@ -1,6 +1,7 @@
--- The blocks of let and where that stand in a part of a program, those of where without declarations among them.
+-- The blocks of let and where that stand in a part of a program, those of where without declarations among them, in
+-- the order in which what they are for ends.
 use Rattle.std.specs.Prelude.{List, [], ◌∷◌, ◌++◌}
-use Rattle.hdc_written.specs.Written.{Expression, chain, Links, no_link, link, Operand, variable, constructor, literal, unit, nil, cons, in_parentheses, tuple, list, range, comprehension, left_section, right_section, applied, lambda, let_in, if_else, case_of, Operands, no_operand, operand, Expressions, no_expression, expression, Qualifier, generator, condition, let_qualifier, Qualifiers, no_qualifier, qualifier, Alternative, blank, alternative, Alternatives, no_alternative, next_alternative, RightSide, plain, guarded, Guards, no_guard, guard, Declaration, empty, signature, equation, binding, Declarations, no_declaration, declaration}
+use Rattle.hdc_written.specs.Written.{Expression, chain, Links, no_link, link, Operand, variable, constructor, literal, unit, nil, cons, in_parentheses, tuple, list, range, comprehension, left_section, right_section, applied, lambda, let_in, if_else, case_of, Operands, no_operand, operand, Expressions, no_expression, expression, generator, condition, let_qualifier, Qualifiers, no_qualifier, qualifier, Alternative, blank, alternative, Alternatives, no_alternative, next_alternative, RightSide, plain, guarded, Guards, no_guard, guard, Declaration, empty, signature, equation, binding, Declarations, no_declaration, declaration}
 
 abbrev mutual
   pub expression_blocks : Expression → List Declarations
@@ -21,12 +22,12 @@ abbrev mutual
   operand_blocks (tuple a es) = each_expression_blocks es
   operand_blocks (list a es) = each_expression_blocks es
   operand_blocks (range a e f) = expression_blocks e ++ expression_blocks f
-  operand_blocks (comprehension a e qs) = each_qualifier_blocks qs ++ expression_blocks e
+  operand_blocks (comprehension a e qs) = blocks_behind qs (expression_blocks e)
   operand_blocks (left_section a e o) = expression_blocks e
   operand_blocks (right_section a o e) = expression_blocks e
   operand_blocks (applied f as') = operand_blocks f ++ each_operand_blocks as'
   operand_blocks (lambda a ps e) = expression_blocks e
-  operand_blocks (let_in a ds e) = ds ∷ (each_declaration_blocks ds ++ expression_blocks e)
+  operand_blocks (let_in a ds e) = each_declaration_blocks ds ++ (expression_blocks e ++ (ds ∷ []))
   operand_blocks (if_else a e f g) = expression_blocks e ++ (expression_blocks f ++ expression_blocks g)
   operand_blocks (case_of a e bs) = expression_blocks e ++ each_alternative_blocks bs
 
@@ -38,14 +39,12 @@ abbrev mutual
   each_expression_blocks no_expression = []
   each_expression_blocks (expression e es) = expression_blocks e ++ each_expression_blocks es
 
-  pub qualifier_blocks : Qualifier → List Declarations
-  qualifier_blocks (generator p e) = expression_blocks e
-  qualifier_blocks (condition e) = expression_blocks e
-  qualifier_blocks (let_qualifier a ds) = ds ∷ each_declaration_blocks ds
-
-  pub each_qualifier_blocks : Qualifiers → List Declarations
-  each_qualifier_blocks no_qualifier = []
-  each_qualifier_blocks (qualifier q qs) = qualifier_blocks q ++ each_qualifier_blocks qs
+  -- those of qualifiers and of their head
+  pub blocks_behind : Qualifiers → List Declarations → List Declarations
+  blocks_behind no_qualifier head = head
+  blocks_behind (qualifier (generator p e) qs) head = expression_blocks e ++ blocks_behind qs head
+  blocks_behind (qualifier (condition e) qs) head = expression_blocks e ++ blocks_behind qs head
+  blocks_behind (qualifier (let_qualifier a ds) qs) head = each_declaration_blocks ds ++ (blocks_behind qs head ++ (ds ∷ []))
 
   pub alternative_blocks : Alternative → List Declarations
   alternative_blocks blank = []
@@ -57,8 +56,8 @@ abbrev mutual
 
   -- the block is that of the where
   pub right_side_blocks : RightSide → List Declarations
-  right_side_blocks (plain e ds) = ds ∷ (each_declaration_blocks ds ++ expression_blocks e)
-  right_side_blocks (guarded a gs ds) = ds ∷ (each_declaration_blocks ds ++ guard_blocks gs)
+  right_side_blocks (plain e ds) = each_declaration_blocks ds ++ (expression_blocks e ++ (ds ∷ []))
+  right_side_blocks (guarded a gs ds) = each_declaration_blocks ds ++ (guard_blocks gs ++ (ds ∷ []))
 
   pub guard_blocks : Guards → List Declarations
   guard_blocks no_guard = []

@@ -1,3 +1,12 @@
 pub mod Free
 pub mod Blocks
 pub mod Needy
+pub mod Walk
+pub mod Ends
+pub mod Binders
+pub mod Kept
+pub mod Frames
+pub mod Bind
+pub mod Values
+pub mod Uses
+pub mod Agrees

@@ -27,3 +27,4 @@ pub use name::{head_name, op_name, var_name};
 pub use scope::Scope;
 pub use stack::Stack;
 pub use using::equation_events;
+pub use variables::variable_events;

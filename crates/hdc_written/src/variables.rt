@@ -1,6 +1,6 @@
 //! The variables of patterns, as events.
 
-ghost use Rattle.std.specs.Prelude.{◌≡◌, ◌++◌, OnOk};
+ghost use Rattle.std.specs.Prelude.{◌≡◌, ◌++◌, OnOk, IfOk};
 ghost use Rattle.hdc_written.specs.Events as spec;
 ghost use Rattle.hdc_written.specs.Mirror as mirror;
 ghost use Rattle.hdc_written.specs.Recorded.{recorded};
@@ -8,7 +8,17 @@ ghost use Rattle.hdc_written.specs.Written as written;
 
 use crate::events::{Event, Events};
 use hdc_tree::{Apat, CommaPat, ConsPat, Head, LeftPat, Pat};
-use std::alloc::AllocError;
+use std::alloc::{AllocError, Global};
+
+/// The variables of a pattern, each as it comes into scope. Memory may be wanting.
+#[tactic(auto, using(crate::proofs::Listing::in_order, crate::proofs::PatternMirror::mirrored_patterns))]
+pub fn variable_events<'t>(alloc: Global, pat: &'t Pat) -> Result<Events<'t>, AllocError>
+    ensures { IfOk result (λ events. recorded events ≡ spec.each_introduced (written.variables (mirror.pat_of pat.now))) }
+{
+    let mut events = Events::new(alloc);
+    introduce_pat(&mut events, pat)?;
+    Ok(events)
+}
 
 #[cycle(introduce_patterns)]
 #[tactic(auto, using(crate::proofs::Listing::in_order, crate::proofs::PatternMirror::mirrored_patterns))]
