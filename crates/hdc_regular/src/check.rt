@@ -17,11 +17,7 @@ pub fn find_in_prelude(alloc: Global, prelude: &Tree) -> Result<Found, AllocErro
 }
 
 /// Stub.
-pub fn find_in_program(
-    alloc: Global,
-    prelude: &Tree,
-    program: &Tree,
-) -> Result<Found, AllocError>
+pub fn find_in_program(alloc: Global, prelude: &Tree, program: &Tree) -> Result<Found, AllocError>
     ensures { IfOk result (λ found. IsFirst (IsIrregular (tops_of prelude.now) (tops_of program.now)) found.breach) }
 {
     Err(AllocError)

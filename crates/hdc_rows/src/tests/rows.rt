@@ -412,8 +412,14 @@ const NAMES: [(&str, &str); 48] = [
     ("type A = B\ntype B = C\ntype C = B\nmain = 1", "N9 at 2:6"),
     // Data types that use their group at other arguments, also through synonyms.
     ("data T a b = K (T b a)\nmain = 1", "N10 at 1:17"),
-    ("data T a = K (U [a])\ndata U a = L (T a)\nmain = 1", "N10 at 1:15"),
-    ("type S a = T [a]\ndata T a = K (S a)\nmain = 1", "N10 at 2:15"),
+    (
+        "data T a = K (U [a])\ndata U a = L (T a)\nmain = 1",
+        "N10 at 1:15",
+    ),
+    (
+        "type S a = T [a]\ndata T a = K (S a)\nmain = 1",
+        "N10 at 2:15",
+    ),
     // Values that need themselves through functions.
     ("main = let f x = y; y = f 1 in y", "N11 at 1:21"),
     ("main = 1 where (x, y) = (y, 1)", "N11 at 1:16"),
