@@ -32,11 +32,11 @@ use Rattle.hdc_parse.specs.declared.stop.ParseStop.TheVariants as parsing
 use Rattle.hdc_parse.specs.Exact.{IsParsed}
 use Rattle.hdc_parse.proofs.OneAnswer.{parsed_no_syntax, parsed_no_nesting, syntax_once, nesting_once, syntax_no_nesting}
 use Rattle.hdc_parse.proofs.OneSpelling.{one_spelling}
-use Rattle.hdc_resolve.specs.declared.check.NamesStop.{NamesStop}
-use Rattle.hdc_resolve.specs.declared.check.NamesStop.TheVariants as checking
+use Rattle.hdc_top.specs.declared.names.NamesStop.{NamesStop}
+use Rattle.hdc_top.specs.declared.names.NamesStop.TheVariants as checking
 use Rattle.hdc_written.specs.Mirror.{tops_of}
-use Rattle.hdc_resolve.specs.Names.{AreChecked}
-use Rattle.hdc_resolve.proofs.OneCheck.{answered_once}
+use Rattle.hdc_top.specs.Names.{AreChecked}
+use Rattle.hdc_top.proofs.OneNames.{answered_once}
 use Rattle.hdc_top.specs.Prelude.{HasTree, IsPrelude, stored, without}
 use Rattle.hdc_top.specs.Stopped.{most_bytes, lexer_stop, parser_stop, names_stop, refused_at, end_place, HasLayout, IsAsked, KeepsRules, SpellsLaid, SpellsTree, StopsLaid, syntax_at, nesting_at, names_at, not_built, LacksLayout, lexemes, layout, IsStopped, no_tokens, laid_tokens, IsRefused, NestsTooDeep, HasDeepTree, PassesLimit}
 use Rattle.hdc_top.specs.Report.{run_text, stop_text}

@@ -23,10 +23,10 @@ use Rattle.hdc_parse.specs.declared.stop.ParseStop.TheVariants as parsing
 use Rattle.hdc_parse.specs.Exact.{IsParsed}
 use Rattle.hdc_parse.specs.Answer.{IsAnswer}
 use Rattle.hdc_tree.specs.declared.program.Tree as program
-use Rattle.hdc_resolve.specs.declared.check.NamesStop.{NamesStop}
-use Rattle.hdc_resolve.specs.declared.check.NamesStop.TheVariants as checking
+use Rattle.hdc_top.specs.declared.names.NamesStop.{NamesStop}
+use Rattle.hdc_top.specs.declared.names.NamesStop.TheVariants as checking
 use Rattle.hdc_written.specs.Mirror.{tops_of}
-use Rattle.hdc_resolve.specs.Names.{AreChecked}
+use Rattle.hdc_top.specs.Names.{AreChecked}
 use Rattle.hdc_top.specs.Prelude.{IsPrelude}
 use Rattle.hdc_top.specs.Stopped.{not_yet, refused_at, layout_stop, lexer_stop, parser_stop, names_stop, end_place, HasLayout, IsAsked, KeepsRules, StopsLaid, syntax_at, nesting_at, names_at, not_built, IsStopped, no_tokens, lexemes, layout, laid_tokens}
 use Rattle.hdc_top.specs.Results.{IsBetween, Finds, Reads, ReadsProgram, LaysText, ChecksWhole, ReadsLaid, ReadsText, Compiles}

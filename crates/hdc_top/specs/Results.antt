@@ -12,8 +12,8 @@ use Rattle.hdc_tree.specs.declared.token.Token.{Token}
 use Rattle.hdc_tree.specs.Tree.{Tree, tree_of}
 use Rattle.hdc_tree.specs.Lexemes.{braced}
 use Rattle.hdc_tree.specs.Program.{IsProgram, SpellsNone}
-use Rattle.hdc_resolve.specs.declared.check.NamesStop.{NamesStop}
-use Rattle.hdc_resolve.specs.declared.check.NamesStop.TheVariants as checking
+use Rattle.hdc_top.specs.declared.names.NamesStop.{NamesStop}
+use Rattle.hdc_top.specs.declared.names.NamesStop.TheVariants as checking
 use Rattle.hdc_code.specs.declared.instr.Instr.{Instr}
 use Rattle.hdc_top.specs.Code.{CarriesMeaning}
 use Rattle.hdc_top.specs.Stopped.{names_stop, HasLayout, LacksLayout, IsAsked, KeepsRules, SpellsLaid, SpellsTree, StopsLaid, IsStopped}

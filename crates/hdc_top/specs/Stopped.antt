@@ -23,10 +23,10 @@ use Rattle.hdc_tree.specs.Program.{IsProgram, SpellsNone}
 use Rattle.hdc_parse.specs.declared.stop.ParseStop.{ParseStop}
 use Rattle.hdc_parse.specs.declared.stop.ParseStop.TheVariants as parsing
 use Rattle.hdc_parse.specs.Exact.{IsParsed, IsSyntax, IsNesting}
-use Rattle.hdc_resolve.specs.declared.check.NamesStop.{NamesStop}
-use Rattle.hdc_resolve.specs.declared.check.NamesStop.TheVariants as checking
+use Rattle.hdc_top.specs.declared.names.NamesStop.{NamesStop}
+use Rattle.hdc_top.specs.declared.names.NamesStop.TheVariants as checking
 use Rattle.hdc_written.specs.Mirror.{tops_of}
-use Rattle.hdc_resolve.specs.Names.{AreChecked}
+use Rattle.hdc_top.specs.Names.{AreChecked}
 use Rattle.hdc_top.specs.Prelude.{IsPrelude}
 pub use Rattle.hdc_top.specs.Layout.{end_place, HasLayout}
 

@@ -6,13 +6,13 @@ ghost use Rattle.hdc_top.specs.Stopped.{layout_stop, lexer_stop, not_yet, parser
 ghost use Rattle.hdc_top.specs.Results.{ChecksWhole, LaysText, ReadsLaid, ReadsProgram, ReadsText};
 
 use crate::lexemes::{arithmetic, between_braces};
+use crate::names::{NamesStop, check_names};
 use crate::parser::parse;
 use crate::prelude::prelude_tree;
 use hdc_base::{At, Kind, Limit, Refusal, Stop, Token, Tokens, Which};
 use hdc_layout::{LayoutStop, lay_out};
 use hdc_lex::{Form, LexStop, end_of, lex};
 use hdc_parse::ParseStop;
-use hdc_resolve::{NamesStop, check_names};
 use hdc_tree::{Exp, Tree};
 use std::alloc::{AllocError, AllocFailed, Global};
 

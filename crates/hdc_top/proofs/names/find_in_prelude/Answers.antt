@@ -5,8 +5,8 @@ use Rattle.hdc_rules.specs.Uses.{prelude_breaches}
 use Rattle.hdc_synonyms.specs.Synonyms.{IsCyclicSynonym}
 use Rattle.hdc_regular.specs.Irregular.{IsIrregular}
 use Rattle.hdc_needs.specs.Needy.{IsNeedy}
-use Rattle.hdc_resolve.proofs.Joining.{first_of_four}
-use Rattle.hdc_resolve.proofs.check.find_in_prelude.Goals as goal
+use Rattle.hdc_top.proofs.Joining.{first_of_four}
+use Rattle.hdc_top.proofs.names.find_in_prelude.Goals as goal
 
 pub returns : goal.returns
 returns c =

@@ -9,9 +9,9 @@ use Rattle.hdc_names.specs.declared.check.TreesStop.{TreesStop}
 use Rattle.hdc_names.specs.declared.check.TreesStop.TheVariants as trees
 use Rattle.hdc_names.specs.Trees.{IsChecked}
 use Rattle.hdc_names.proofs.OneCheck.{checked_once}
-use Rattle.hdc_resolve.specs.declared.check.NamesStop.{NamesStop}
-use Rattle.hdc_resolve.specs.declared.check.NamesStop.TheVariants as stop
-use Rattle.hdc_resolve.specs.Names.{BreaksInPrelude, BreaksInProgram, KeepRules, BreakFirst, AreChecked}
+use Rattle.hdc_top.specs.declared.names.NamesStop.{NamesStop}
+use Rattle.hdc_top.specs.declared.names.NamesStop.TheVariants as stop
+use Rattle.hdc_top.specs.Names.{BreaksInPrelude, BreaksInProgram, KeepRules, BreakFirst, AreChecked}
 
 some_once : (a b : Breach) → ◌≡◌ {A = Option Breach} (Some a) (Some b) → a ≡ b
 some_once a b h = cc

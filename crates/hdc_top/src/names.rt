@@ -3,7 +3,7 @@
 ghost use Rattle.std.specs.Prelude.{◌≡◌, ◌⊎◌, IfOk};
 ghost use Rattle.hdc_written.specs.Breaches.{IsFirst, IsOneOf};
 ghost use Rattle.hdc_written.specs.Mirror.{tops_of};
-ghost use Rattle.hdc_resolve.specs.Names as spec;
+ghost use Rattle.hdc_top.specs.Names as spec;
 
 use hdc_base::At;
 use hdc_names::{TreesStop, check_trees};

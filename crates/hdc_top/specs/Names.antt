@@ -10,8 +10,8 @@ use Rattle.hdc_rules.specs.Uses.{prelude_breaches, program_breaches}
 use Rattle.hdc_synonyms.specs.Synonyms.{IsCyclicSynonym}
 use Rattle.hdc_regular.specs.Irregular.{IsIrregular}
 use Rattle.hdc_needs.specs.Needy.{IsNeedy}
-use Rattle.hdc_resolve.specs.declared.check.NamesStop.{NamesStop}
-use Rattle.hdc_resolve.specs.declared.check.NamesStop.TheVariants as stop
+use Rattle.hdc_top.specs.declared.names.NamesStop.{NamesStop}
+use Rattle.hdc_top.specs.declared.names.NamesStop.TheVariants as stop
 
 -- a prelude, and a program behind a prelude, break a rule on names at a place
 abbrev pub BreaksInPrelude : List Top → Breach → Type 0
