@@ -11,7 +11,7 @@ use Rattle.hdc_names.specs.Trees.{IsChecked}
 use Rattle.hdc_names.proofs.OneCheck.{checked_once}
 use Rattle.hdc_top.specs.declared.names.NamesStop.{NamesStop}
 use Rattle.hdc_top.specs.declared.names.NamesStop.TheVariants as stop
-use Rattle.hdc_top.specs.Names.{BreaksInPrelude, BreaksInProgram, KeepRules, BreakFirst, AreChecked}
+use Rattle.hdc_top.specs.Names.{BreaksInPrelude, BreaksInProgram, BreakNone, BreakFirst, AreChecked}
 
 some_once : (a b : Breach) → ◌≡◌ {A = Option Breach} (Some a) (Some b) → a ≡ b
 some_once a b h = cc
@@ -19,7 +19,7 @@ some_once a b h = cc
 never_both : (P : Breach → Type 0) (b : Breach) → IsFirst P None → IsFirst P (Some b) → ⊥
 never_both P b h g = h b g.0
 
-first_keeps : (ps ts : List Top) (b : Breach) → BreakFirst ps ts b → KeepRules ps ts → ⊥
+first_keeps : (ps ts : List Top) (b : Breach) → BreakFirst ps ts b → BreakNone ps ts → ⊥
 first_keeps ps ts b (inl h) keep = never_both (BreaksInPrelude ps) b keep.0 h
 first_keeps ps ts b (inr h) keep = never_both (BreaksInProgram ps ts) b keep.1 h.1
 

@@ -20,9 +20,9 @@ BreaksInPrelude ps b = ((IsOneOf b (prelude_breaches ps) ⊎ IsCyclicSynonym ps 
 abbrev pub BreaksInProgram : List Top → List Top → Breach → Type 0
 BreaksInProgram ps ts b = ((IsOneOf b (program_breaches ps ts) ⊎ IsCyclicSynonym ts b) ⊎ IsIrregular ps ts b) ⊎ IsNeedy ts b
 
--- none is broken
-abbrev pub KeepRules : List Top → List Top → Type 0
-KeepRules ps ts = IsFirst (BreaksInPrelude ps) None × IsFirst (BreaksInProgram ps ts) None
+-- they break none
+abbrev pub BreakNone : List Top → List Top → Type 0
+BreakNone ps ts = IsFirst (BreaksInPrelude ps) None × IsFirst (BreaksInProgram ps ts) None
 
 -- the first one in the prelude, or else in the program
 abbrev pub BreakFirst : List Top → List Top → Breach → Type 0
@@ -31,7 +31,7 @@ BreakFirst ps ts b = IsFirst (BreaksInPrelude ps) (Some b) ⊎ (IsFirst (BreaksI
 -- what is said of a prelude and a program, the chains and sections before the depths, and these before the names; memory may
 -- be wanting
 abbrev pub AreChecked : List Top → List Top → Result (Unit {0}) NamesStop → Type 0
-AreChecked ps ts (Ok done) = IsChecked ps ts (Ok tt) × KeepRules ps ts
+AreChecked ps ts (Ok done) = IsChecked ps ts (Ok tt) × BreakNone ps ts
 AreChecked ps ts (Err (stop.Fixity at)) = IsChecked ps ts (Err (trees.Fixity at))
 AreChecked ps ts (Err (stop.Depth at)) = IsChecked ps ts (Err (trees.Depth at))
 AreChecked ps ts (Err (stop.Name b)) = IsChecked ps ts (Ok tt) × BreakFirst ps ts b
@@ -44,7 +44,7 @@ want = stop.Want
 
 -- what is said of the rules on names alone
 abbrev pub RulesAnswer : List Top → List Top → Result (Unit {0}) NamesStop → Type 0
-RulesAnswer ps ts (Ok done) = KeepRules ps ts
+RulesAnswer ps ts (Ok done) = BreakNone ps ts
 RulesAnswer ps ts (Err (stop.Fixity at)) = ⊥
 RulesAnswer ps ts (Err (stop.Depth at)) = ⊥
 RulesAnswer ps ts (Err (stop.Name b)) = BreakFirst ps ts b
