@@ -17,6 +17,7 @@ use Rattle.hdc_synonyms.specs.Adding.{unlinked, with_needs, top_added, each_adde
 
 -- ---- one node
 
+-- the second of two writes at one place counts
 set_twice : {A : Type 0} (l : List A) (i : ℕ) (a b : A) → set (set l i a) i b ≡ set l i b
 set_twice [] i a b = refl
 set_twice (x ∷ xs) zero a b = refl
@@ -33,19 +34,23 @@ with_joined n xs ys g lt =
     sym (set_twice g n (old ++ xs) (old ++ (xs ++ ys)))
     ∙ ap (set (set g n (old ++ xs)) n) (sym (append_assoc old xs ys) ∙ ap (λ z. z ++ ys) (sym (get_or-set_same g n (old ++ xs) [] lt)))
 
+-- a node that needs more is no further node
 pub same_size : (n : ℕ) (xs : List ℕ) (g : Nodes) → length (with_needs n xs g) ≡ length g
 same_size n xs g = length-set g n (get_or g n [] ++ xs)
 
 -- ---- all nodes
 
+-- one more node at the end
 pub one_more_unlinked : (n : ℕ) → unlinked n ++ [] ∷ [] ≡ unlinked (suc n)
 one_more_unlinked zero = refl
 one_more_unlinked (suc n) = ap (λ (z : Nodes). [] ∷ z) (one_more_unlinked n)
 
+-- so many nodes are so many
 pub size_unlinked : (n : ℕ) → length (unlinked n) ≡ n
 size_unlinked zero = refl
 size_unlinked (suc n) = ap (λ (k : ℕ). suc k) (size_unlinked n)
 
+-- needs that are added are no further nodes
 pub size_each_added : (declared : List (Binding ℕ)) (n : ℕ) (ts : List Top) (g : Nodes) → length (each_added declared n ts g) ≡ length g
 size_each_added declared n [] g = refl
 size_each_added declared n (t ∷ ts) g = size_each_added declared (suc n) ts (top_added declared n t g) ∙ same_size n (top_needs declared t) g
@@ -56,6 +61,7 @@ seam done xs rest =
     ap (λ z. set (done ++ [] ∷ rest) (length done) (z ++ xs)) (get_or-append_seam done [] rest [])
     ∙ set-append_seam done [] rest xs
 
+-- behind declarations that have their needs, the others get theirs
 each_added_behind : (declared : List (Binding ℕ)) (n : ℕ) (ts : List Top) (done : Nodes) → length done ≡ n → each_added declared n ts (done ++ unlinked (length ts)) ≡ done ++ each_top_needs declared ts
 each_added_behind declared n [] done e = refl
 each_added_behind declared n (t ∷ ts) done e =
@@ -71,20 +77,24 @@ each_added_behind declared n (t ∷ ts) done e =
 pub all_added : (declared : List (Binding ℕ)) (ts : List Top) → each_added declared 0 ts (unlinked (length ts)) ≡ each_top_needs declared ts
 all_added declared ts = each_added_behind declared 0 ts [] refl
 
+-- as many declarations are read as are held
 pub size_tops_behind : (ns : List NextTop) → length (tops_behind ns) ≡ length ns
 size_tops_behind [] = refl
 size_tops_behind (n ∷ ns) = ap (λ (k : ℕ). suc k) (size_tops_behind ns)
 
+-- each declaration is a node
 pub size_each_top_needs : (declared : List (Binding ℕ)) (ts : List Top) → length (each_top_needs declared ts) ≡ length ts
 size_each_top_needs declared [] = refl
 size_each_top_needs declared (t ∷ ts) = ap (λ (k : ℕ). suc k) (size_each_top_needs declared ts)
 
 -- ---- the numbers are those of declarations
 
+-- one list behind another
 within_joined : (limit : ℕ) (bs cs : List (Binding ℕ)) → AreWithin limit bs → AreWithin limit cs → AreWithin limit (bs ++ cs)
 within_joined limit [] cs first second = second
 within_joined limit (b ∷ bs) cs first second = (first.0, within_joined limit bs cs first.1 second)
 
+-- those of one declaration
 top_within : (limit n : ℕ) (t : Top) → n < limit → AreWithin limit (top_types n t)
 top_within limit n (top.Data d) lt = (lt, tt)
 top_within limit n (top.Synonym s) lt = (lt, tt)
@@ -98,6 +108,7 @@ pub declared_within : (limit n : ℕ) (ts : List Top) → n + length ts ≤ limi
 declared_within limit n [] le = tt
 declared_within limit n (t ∷ ts) le = within_joined limit (top_types n t) (declared_types (suc n) ts) (top_within limit n t (omega arith)) (declared_within limit (suc n) ts (omega arith))
 
+-- what a name stands for
 number_below : (limit : ℕ) (t : List ℕ) (bs : List (Binding ℕ)) → AreWithin limit bs → AllBelow limit (number_of (standing_for t bs))
 number_below limit t [] all = tt
 number_below limit t (b ∷ bs) all = by (bytes_eq t b.name) (number_below limit t bs all.1)
@@ -106,10 +117,12 @@ number_below limit t (b ∷ bs) all = by (bytes_eq t b.name) (number_below limit
     by true rest = (all.0, tt)
     by false rest = rest
 
+-- one list behind another
 below_joined : (limit : ℕ) (xs ys : List ℕ) → AllBelow limit xs → AllBelow limit ys → AllBelow limit (xs ++ ys)
 below_joined limit [] ys first second = second
 below_joined limit (x ∷ xs) ys first second = (first.0, below_joined limit xs ys first.1 second)
 
+-- what a type needs is declared
 mutual
   type_below : (limit : ℕ) (bs : List (Binding ℕ)) → AreWithin limit bs → (t : WrittenType) → AllBelow limit (type_needs bs t)
   type_below limit bs all (type_constructor c ts) = below_joined limit (number_of (standing_for c.text bs)) (each_type_needs bs ts) (number_below limit c.text bs all) (each_type_below limit bs all ts)
@@ -133,6 +146,7 @@ top_below limit bs all (top.Fixity f) = tt
 top_below limit bs all (top.Signature x xs a t) = tt
 top_below limit bs all (top.Equation h r) = tt
 
+-- each of the numbers, by its place
 pub below_at : (limit : ℕ) (xs : List ℕ) (k d : ℕ) → AllBelow limit xs → k < length xs → get_or xs k d < limit
 below_at limit [] k d all lt = absurd (omega arith)
 below_at limit (x ∷ xs) zero d all lt = all.0
@@ -146,6 +160,7 @@ text_within limit first rest declared e lt =
     let size = size_tops_behind rest in
     subst (AreWithin limit) (sym e) (declared_within limit 0 (first ∷ tops_behind rest) (omega (arith, size, lt)))
 
+-- a graph without needs, to which those of a text are added, is the graph of the text
 pub text_added : (first : Top) (rest : List NextTop) (declared : List (Binding ℕ)) (start now all : Nodes) → declared ≡ declared_types 0 (first ∷ tops_behind rest) → start ≡ unlinked (suc (length rest)) → now ≡ top_added declared 0 first start → all ≡ each_added declared 1 (tops_behind rest) now → all ≡ synonym_needs (first ∷ tops_behind rest)
 text_added first rest declared start now all d e f g =
     let ts = first ∷ tops_behind rest in

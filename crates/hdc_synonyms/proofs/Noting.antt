@@ -22,12 +22,14 @@ record Marked (cyclic : List Bool) (n : ℕ) (ts : List Top) (b : Breach) : Type
   is_breach : b ≡ breach 9 synonym.name.at
   is_cyclic : IsTrue (get_or cyclic (n + behind) false)
 
+-- a declaration is a synonym that reaches itself, and this is its breach
 record Synonymous (c : Bool) (t : Top) (b : Breach) : Type 0 where
   of_cyclic : IsTrue c
   of_synonym : Synonym
   of_is : t ≡ top.Synonym of_synonym
   of_breach : b ≡ breach 9 of_synonym.name.at
 
+-- what is noted of a declaration is so
 of_top : (c : Bool) (t : Top) (b : Breach) → IsOneOf b (where_cyclic c t) → Synonymous c t b
 of_top true (top.Synonym s) b (inl e) = record { of_cyclic = refl; of_synonym = s; of_is = refl; of_breach = e }
 of_top true (top.Synonym s) b (inr h) = absurd h
@@ -38,6 +40,7 @@ of_top true (top.Signature x xs a t) b h = absurd h
 of_top true (top.Equation e r) b h = absurd h
 of_top false t b h = absurd h
 
+-- a breach of the first declaration
 here : (cyclic : List Bool) (n : ℕ) (t : Top) (ts : List Top) (b : Breach) → Synonymous (get_or cyclic n false) t b → Marked cyclic n (t ∷ ts) b
 here cyclic n t ts b h = record {
   behind = 0;
@@ -47,6 +50,7 @@ here cyclic n t ts b h = record {
   is_cyclic = subst (λ k. IsTrue (get_or cyclic k false)) (sym (add-zero n)) h.of_cyclic;
 }
 
+-- a breach of a later one
 further : (cyclic : List Bool) (n : ℕ) (t : Top) (ts : List Top) (b : Breach) → Marked cyclic (suc n) ts b → Marked cyclic n (t ∷ ts) b
 further cyclic n t ts b h =
     let same : suc n + h.behind ≡ n + suc h.behind = omega arith in
@@ -58,6 +62,7 @@ further cyclic n t ts b h =
       is_cyclic = subst (λ k. IsTrue (get_or cyclic k false)) same h.is_cyclic;
     }
 
+-- each breach that is noted is that of a synonym which is known to reach itself
 marked_of : (cyclic : List Bool) (n : ℕ) (ts : List Top) (b : Breach) → IsOneOf b (cyclic_breaches cyclic n ts) → Marked cyclic n ts b
 marked_of cyclic n [] b h = absurd h
 marked_of cyclic n (t ∷ ts) b h = by (one_of_either b (where_cyclic (get_or cyclic n false) t) (cyclic_breaches cyclic (suc n) ts) h) (marked_of cyclic (suc n) ts b)
@@ -66,11 +71,13 @@ marked_of cyclic n (t ∷ ts) b h = by (one_of_either b (where_cyclic (get_or cy
     by (inl k) rest = here cyclic n t ts b (of_top (get_or cyclic n false) t b k)
     by (inr k) rest = further cyclic n t ts b (rest k)
 
+-- a synonym that reaches itself is noted
 noted_here : (c : Bool) (t : Top) (s : Synonym) → t ≡ top.Synonym s → IsTrue c → IsOneOf (breach 9 s.name.at) (where_cyclic c t)
 noted_here c t s is holds =
     let Noted : Bool → Top → Type 0 = λ d x. IsOneOf (breach 9 s.name.at) (where_cyclic d x) in
     subst (λ d. Noted d t) (sym holds) (subst (Noted true) (sym is) (inl refl))
 
+-- the same in a list
 of_marked : (cyclic : List Bool) (n : ℕ) (ts : List Top) (k : ℕ) (s : Synonym) → slice_get ts k ≡ Some (top.Synonym s) → IsTrue (get_or cyclic (n + k) false) → IsOneOf (breach 9 s.name.at) (cyclic_breaches cyclic n ts)
 of_marked cyclic n [] k s is holds = absurd cc
 of_marked cyclic n (t ∷ ts) zero s is holds =
@@ -82,20 +89,24 @@ of_marked cyclic n (t ∷ ts) (suc k) s is holds =
     one_of_right (breach 9 s.name.at) (where_cyclic (get_or cyclic n false) t) (cyclic_breaches cyclic (suc n) ts)
     (of_marked cyclic (suc n) ts k s is (subst (λ m. IsTrue (get_or cyclic m false)) same holds))
 
+-- what stands at a place stands in the list
 get_within : (ts : List Top) (k : ℕ) (t : Top) → slice_get ts k ≡ Some t → k < length ts
 get_within [] k t is = absurd cc
 get_within (x ∷ xs) zero t is = omega arith
 get_within (x ∷ xs) (suc k) t is = let rest = get_within xs k t is in omega (arith, rest)
 
+-- each declaration of a text is a node
 node_within : (ts : List Top) (k : ℕ) (t : Top) → slice_get ts k ≡ Some t → k < length (synonym_needs ts)
 node_within ts k t is =
     let lt = get_within ts k t is in
     let size = size_each_top_needs (declared_types 0 ts) ts in
     omega (arith, lt, size)
 
+-- a breach by its rule and its place
 same_breach : (b : Breach) (at : At) → b.rule ≡ 9 → b.at ≡ at → b ≡ breach 9 at
 same_breach b at e f = ap (λ n. record { rule = n; at = b.at }) e ∙ ap (λ (a : At). breach 9 a) f
 
+-- what is noted reaches itself
 noted_cyclic : (ts : List Top) (cyclic : List Bool) → AreCyclic (synonym_needs ts) cyclic → (b : Breach) → IsOneOf b (cyclic_breaches cyclic 0 ts) → IsCyclicSynonym ts b
 noted_cyclic ts cyclic known b h = by (marked_of cyclic 0 ts b h)
   where
@@ -109,6 +120,7 @@ noted_cyclic ts cyclic known b h = by (marked_of cyclic 0 ts b h)
       reaches = (known.reaches m.behind (node_within ts m.behind (top.Synonym m.synonym) m.is_synonym)).0 (subst (λ k. IsTrue (get_or cyclic k false)) (zero-add m.behind) m.is_cyclic);
     }
 
+-- what reaches itself is noted
 cyclic_noted : (ts : List Top) (cyclic : List Bool) → AreCyclic (synonym_needs ts) cyclic → (b : Breach) → IsCyclicSynonym ts b → IsOneOf b (cyclic_breaches cyclic 0 ts)
 cyclic_noted ts cyclic known b h =
     let lt = node_within ts h.number (top.Synonym h.synonym) h.is_synonym in
@@ -116,6 +128,7 @@ cyclic_noted ts cyclic known b h =
     subst (λ x. IsOneOf x (cyclic_breaches cyclic 0 ts)) (sym (same_breach b h.synonym.name.at h.rule h.at))
     (of_marked cyclic 0 ts h.number h.synonym h.is_synonym (subst (λ k. IsTrue (get_or cyclic k false)) (sym (zero-add h.number)) holds))
 
+-- the first of what is noted
 first_cyclic : (ts : List Top) (cyclic : List Bool) → AreCyclic (synonym_needs ts) cyclic → IsFirst (IsCyclicSynonym ts) (all_noted nothing_found (cyclic_breaches cyclic 0 ts)).breach
 first_cyclic ts cyclic known =
     let bs = cyclic_breaches cyclic 0 ts in
