@@ -1,0 +1,4 @@
+pub mod Listing
+pub mod Loops
+pub mod Adding
+pub mod Noting

@@ -1,0 +1,3 @@
+pub mod Synonyms
+pub mod Adding
+pub mod Noted
