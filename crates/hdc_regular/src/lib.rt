@@ -1,0 +1,4 @@
+//! Data types that are not regular.
+#![tactic(auto)]
+
+mod laws;
