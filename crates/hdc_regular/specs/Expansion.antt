@@ -44,10 +44,6 @@ expanded_meaning ds (suc f) n = expanded (synonyms_of ds) (expanded_meaning ds f
 abbrev pub full_meaning : List Declaration → ℕ → Resolved
 full_meaning ds = expanded_meaning ds (length ds)
 
--- the fields of a data type with their synonyms expanded
-abbrev pub expanded_fields : List Declaration → Declaration → Parts
-expanded_fields ds d = each_expanded (synonyms_of ds) (full_meaning ds) (fields_of d)
-
 -- the data types that a type uses
 abbrev mutual
   pub types_in : Resolved → List ℕ
@@ -60,8 +56,11 @@ abbrev mutual
   each_types_in (next_part t ts) = types_in t ++ each_types_in ts
 
 -- a data type needs those that its fields use, with their synonyms expanded
+abbrev pub needs_by : (ℕ → Bool) → (ℕ → Resolved) → List Declaration → Nodes
+needs_by synonyms meanings ds = map (λ d. each_types_in (each_expanded synonyms meanings (fields_of d))) ds
+
 abbrev pub data_needs : List Declaration → Nodes
-data_needs ds = map (λ d. each_types_in (expanded_fields ds d)) ds
+data_needs ds = needs_by (synonyms_of ds) (full_meaning ds) ds
 
 -- the data type with this number uses, at this place, a type of its own recursive group with arguments
 -- that are not the variables of its own head in order
