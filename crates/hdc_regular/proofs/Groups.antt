@@ -166,7 +166,7 @@ module _ (ds : List Declaration) (meanings : ℕ → Resolved) (rank : ℕ → �
       (each_types_in_have (each_expanded (synonyms_of ds) meanings (fields_of (declaration_at ds a))) b c us
         (subst (λ z. EachHas (each_expanded (synonyms_of ds) meanings z) (use_of b c us)) (data_body (declaration_at ds a) is) i))
 
-  reaches_through : {g : Nodes} {a b c : ℕ} → Reaches g a b → Reaches g b c → Reaches g a c
+  pub reaches_through : {g : Nodes} {a b c : ℕ} → Reaches g a b → Reaches g b c → Reaches g a c
   reaches_through (one a b n) r = further a b _ n r
   reaches_through (further a b c n s) r = further a b _ n (reaches_through s r)
 

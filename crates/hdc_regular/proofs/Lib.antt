@@ -1,3 +1,5 @@
 pub mod Within
 pub mod Expanding
 pub mod Groups
+pub mod Components
+pub mod Walking

@@ -1,3 +1,4 @@
 pub mod Resolved
 pub mod Expansion
 pub mod Named
+pub mod Walk
