@@ -1,7 +1,8 @@
 -- What stands in a type whose synonyms are expanded.
-use Rattle.std.proofs.Common.{◌≡◌, ◌⊎◌, inl, inr, ℕ, zero, suc, Bool, true, false, refl, sym, subst}
+use Rattle.std.proofs.Common.{◌∙◌, ap, ◌∷◌, None, ◌≡◌, ◌⊎◌, inl, inr, ℕ, zero, suc, Bool, true, false, refl, sym, subst}
 use Rattle.hdc_base.specs.declared.place.At.{At}
 use Rattle.hdc_regular.specs.Resolved.{Resolved, parameter, use_of, other, Parts, no_part, next_part, part_at, Has, EachHas}
+use Rattle.hdc_regular.specs.Walk.{alias_of, each_alias_of}
 use Rattle.hdc_regular.specs.Expansion.{placed, each_placed, used, expanded, each_expanded}
 use Rattle.hdc_regular.proofs.Within.{IsProper, IsNode, OfPlaced, empty_has, each_of_part, part_of_each, of_placed, placed_has, argument_has}
 
@@ -63,10 +64,10 @@ module _ (synonyms : ℕ → Bool) (meanings : ℕ → Resolved) where
     of_each_expanded (next_part t ts) s p (inl h) = given_more (Has t) (EachHas (next_part t ts)) s (λ r i. inl i) (of_expanded t s p h)
     of_each_expanded (next_part t ts) s p (inr h) = given_more (EachHas ts) (EachHas (next_part t ts)) s (λ r i. inr i) (of_each_expanded ts s p h)
 
-  -- ---- the other way, where each synonym has only those arguments that its meaning holds
+  -- ---- the other way, where a synonym is no variable, and has only those arguments that its meaning holds
 
   abbrev pub OnlyHeld : Bool → ℕ → Parts → Type 0
-  OnlyHeld true n ts = (j : ℕ) → (part_at j ts ≡ other no_part) ⊎ Has (meanings n) (parameter j)
+  OnlyHeld true n ts = (alias_of (meanings n) ≡ None) × ((j : ℕ) → (part_at j ts ≡ other no_part) ⊎ Has (meanings n) (parameter j))
   OnlyHeld false n ts = Unit {0}
 
   abbrev mutual
@@ -92,7 +93,7 @@ module _ (synonyms : ℕ → Bool) (meanings : ℕ → Resolved) where
 
   arguments_have : (b : Bool) (n : ℕ) (at : At) (ts : Parts) (s : Resolved) → IsProper s → OnlyHeld b n ts → EachHas (each_expanded synonyms meanings ts) s
       → Has (used b (meanings n) n at (each_expanded synonyms meanings ts)) s
-  arguments_have true n at ts s p only h = let r = part_of_each (each_expanded synonyms meanings ts) s h in part_has n at ts s r.0 p r.1 (only r.0)
+  arguments_have true n at ts s p only h = let r = part_of_each (each_expanded synonyms meanings ts) s h in part_has n at ts s r.0 p r.1 (only.1 r.0)
   arguments_have false n at ts s p only h = inr h
 
   -- what is given by what stands in a type stands in the expanded type
@@ -130,6 +131,39 @@ module _ (synonyms : ℕ → Bool) (meanings : ℕ → Resolved) where
 
   pub has_held : (t : Resolved) (i : ℕ) → IsExact t → Has t (parameter i) → Has (expanded synonyms meanings t) (parameter i)
   has_held t i x h = expanded_has t (parameter i) (parameter i) tt x h refl
+
+  -- an expanded type is the variable that the type is
+  none_placed : (at : At) (us : Parts) (t : Resolved) → alias_of t ≡ None → alias_of (placed at us t) ≡ None
+  none_placed at us (parameter i) e = cc
+  none_placed at us (use_of n a ts) e = refl
+  none_placed at us (other ts) e = refl
+
+  alias_of_used : (b : Bool) (n : ℕ) (at : At) (ts us : Parts) → OnlyHeld b n ts → alias_of (used b (meanings n) n at us) ≡ None
+  alias_of_used true n at ts us only = none_placed at us (meanings n) only.0
+  alias_of_used false n at ts us only = refl
+
+  pub alias_expanded : (t : Resolved) → IsExact t → alias_of (expanded synonyms meanings t) ≡ alias_of t
+  alias_expanded (parameter i) x = refl
+  alias_expanded (use_of n at ts) x = alias_of_used (synonyms n) n at ts (each_expanded synonyms meanings ts) x.0
+  alias_expanded (other ts) x = refl
+
+  pub each_alias_expanded : (ts : Parts) → EachExact ts → each_alias_of (each_expanded synonyms meanings ts) ≡ each_alias_of ts
+  each_alias_expanded no_part x = refl
+  each_alias_expanded (next_part t ts) x = ap (λ z. z ∷ each_alias_of (each_expanded synonyms meanings ts)) (alias_expanded t x.0) ∙ ap (λ z. alias_of t ∷ z) (each_alias_expanded ts x.1)
+
+  -- what stands in an exact type is exact
+  mutual
+    pub exact_within : (t : Resolved) (n : ℕ) (at : At) (us : Parts) → IsExact t → Has t (use_of n at us) → EachExact us
+    exact_within (parameter i) n at us x h = cc
+    exact_within (use_of m a ts) n at us x (inl e) = let same : ts ≡ us = cc in subst EachExact same x.1
+    exact_within (use_of m a ts) n at us x (inr h) = each_exact_within ts n at us x.1 h
+    exact_within (other ts) n at us x (inl e) = cc
+    exact_within (other ts) n at us x (inr h) = each_exact_within ts n at us x h
+
+    pub each_exact_within : (ts : Parts) (n : ℕ) (at : At) (us : Parts) → EachExact ts → EachHas ts (use_of n at us) → EachExact us
+    each_exact_within no_part n at us x h = absurd h
+    each_exact_within (next_part t ts) n at us x (inl h) = exact_within t n at us x.0 h
+    each_exact_within (next_part t ts) n at us x (inr h) = each_exact_within ts n at us x.1 h
 
   -- ---- uses of data types
 

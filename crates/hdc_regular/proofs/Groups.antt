@@ -113,7 +113,7 @@ module _ (ds : List Declaration) (meanings : ℕ → Resolved) (rank : ℕ → �
       subst (λ z. EachHas (each_expanded (synonyms_of ds) meanings z) (use_of x c ws)) (sym (synonym_body (declaration_at ds n) is))
       (inl (subst (λ z. Has z (use_of x c ws)) (h.solved n is) i))
 
-  used_in_meaning : (n x : ℕ) (c : At) (ws : Parts) → synonyms_of ds n ≡ true → EachHas (full_body n) (use_of x c ws) → Has (meanings n) (use_of x c ws)
+  pub used_in_meaning : (n x : ℕ) (c : At) (ws : Parts) → synonyms_of ds n ≡ true → EachHas (full_body n) (use_of x c ws) → Has (meanings n) (use_of x c ws)
   used_in_meaning n x c ws is i = by (subst (λ z. EachHas (each_expanded (synonyms_of ds) meanings z) (use_of x c ws)) (synonym_body (declaration_at ds n) is) i)
     where
       by : EachHas (next_part (expanded (synonyms_of ds) meanings (meaning_of (declaration_at ds n))) no_part) (use_of x c ws) → Has (meanings n) (use_of x c ws)

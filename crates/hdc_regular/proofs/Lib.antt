@@ -3,3 +3,4 @@ pub mod Expanding
 pub mod Groups
 pub mod Components
 pub mod Walking
+pub mod Judging

@@ -6,7 +6,7 @@ use Rattle.hdc_written.specs.Breaches.{breach, IsOneOf}
 use Rattle.hdc_written.proofs.FirstBreach.{one_of_left, one_of_right, one_of_either}
 use Rattle.hdc_regular.specs.Resolved.{Resolved, parameter, use_of, other, Parts, no_part, next_part, part_at, parameters_from, Has, EachHas}
 use Rattle.hdc_regular.specs.Expansion.{placed, each_placed}
-use Rattle.hdc_regular.specs.Walk.{alias_of, each_alias_of, Tables, followed, each_followed, one_of, each_alias_in, is_variable, in_order, use_fits, wrong_use, wrong, each_wrong}
+use Rattle.hdc_regular.specs.Walk.{alias_of, each_alias_of, Tables, followed, each_followed, one_of, is_variable, in_order, use_fits, wrong_use, wrong, each_wrong}
 
 -- ---- variables that types are
 
@@ -82,7 +82,7 @@ parameters_of_order i (suc k) (next_part t ts) e =
 module _ (known : Tables) (own : ℕ → Bool) (k : ℕ) (u : ℕ → Option ℕ) where
   -- a use in a type that does not fit
   abbrev pub Misfit : (Resolved → Type 0) → Breach → Type 0
-  Misfit In b = (n : ℕ) × (at : At) × (ts : Parts) × In (use_of n at ts) × (own n ≡ true) × (use_fits known (known.synonyms n) n k (each_followed u (each_alias_in known ts)) ≡ false) × (b ≡ breach 10 at)
+  Misfit In b = (n : ℕ) × (at : At) × (ts : Parts) × In (use_of n at ts) × (own n ≡ true) × (use_fits known (known.synonyms n) n k (each_followed u (each_alias_of ts)) ≡ false) × (b ≡ breach 10 at)
 
   misfit_more : (In More : Resolved → Type 0) (b : Breach) → ((r : Resolved) → In r → More r) → Misfit In b → Misfit More b
   misfit_more In More b more (n, at, ts, i, o, f, e) = (n, at, ts, more (use_of n at ts) i, o, f, e)
@@ -99,9 +99,9 @@ module _ (known : Tables) (own : ℕ → Bool) (k : ℕ) (u : ℕ → Option ℕ
   wrong_use_has false f at d e = cc
 
   of_use : (n : ℕ) (at : At) (ts : Parts) (b : Breach) → (IsOneOf b (each_wrong known own k u ts) → Misfit (EachHas ts) b)
-      → IsOneOf b (wrong_use (own n) (use_fits known (known.synonyms n) n k (each_followed u (each_alias_in known ts))) at) ⊎ IsOneOf b (each_wrong known own k u ts)
+      → IsOneOf b (wrong_use (own n) (use_fits known (known.synonyms n) n k (each_followed u (each_alias_of ts))) at) ⊎ IsOneOf b (each_wrong known own k u ts)
       → Misfit (Has (use_of n at ts)) b
-  of_use n at ts b each (inl h) = let r = of_wrong_use (own n) (use_fits known (known.synonyms n) n k (each_followed u (each_alias_in known ts))) at b h in (n, at, ts, inl refl, r.0, r.1, r.2)
+  of_use n at ts b each (inl h) = let r = of_wrong_use (own n) (use_fits known (known.synonyms n) n k (each_followed u (each_alias_of ts))) at b h in (n, at, ts, inl refl, r.0, r.1, r.2)
   of_use n at ts b each (inr h) = misfit_more (EachHas ts) (Has (use_of n at ts)) b (λ r i. inr i) (each h)
 
   of_next : (t : Resolved) (ts : Parts) (b : Breach) → (IsOneOf b (wrong known own k u t) → Misfit (Has t) b) → (IsOneOf b (each_wrong known own k u ts) → Misfit (EachHas ts) b)
@@ -113,40 +113,40 @@ module _ (known : Tables) (own : ℕ → Bool) (k : ℕ) (u : ℕ → Option ℕ
     pub of_wrong : (t : Resolved) (b : Breach) → IsOneOf b (wrong known own k u t) → Misfit (Has t) b
     of_wrong (parameter i) b h = absurd h
     of_wrong (use_of n at ts) b h =
-        of_use n at ts b (of_each_wrong ts b) (one_of_either b (wrong_use (own n) (use_fits known (known.synonyms n) n k (each_followed u (each_alias_in known ts))) at) (each_wrong known own k u ts) h)
+        of_use n at ts b (of_each_wrong ts b) (one_of_either b (wrong_use (own n) (use_fits known (known.synonyms n) n k (each_followed u (each_alias_of ts))) at) (each_wrong known own k u ts) h)
     of_wrong (other ts) b h = misfit_more (EachHas ts) (Has (other ts)) b (λ r i. inr i) (of_each_wrong ts b h)
 
     pub of_each_wrong : (ts : Parts) (b : Breach) → IsOneOf b (each_wrong known own k u ts) → Misfit (EachHas ts) b
     of_each_wrong no_part b h = absurd h
     of_each_wrong (next_part t ts) b h = of_next t ts b (of_wrong t b) (of_each_wrong ts b) (one_of_either b (wrong known own k u t) (each_wrong known own k u ts) h)
 
-  same_use : (n m : ℕ) (at a : At) (ts us : Parts) → use_of n at ts ≡ use_of m a us → own m ≡ true → use_fits known (known.synonyms m) m k (each_followed u (each_alias_in known us)) ≡ false
-      → (own n ≡ true) × (use_fits known (known.synonyms n) n k (each_followed u (each_alias_in known ts)) ≡ false) × (at ≡ a)
+  same_use : (n m : ℕ) (at a : At) (ts us : Parts) → use_of n at ts ≡ use_of m a us → own m ≡ true → use_fits known (known.synonyms m) m k (each_followed u (each_alias_of us)) ≡ false
+      → (own n ≡ true) × (use_fits known (known.synonyms n) n k (each_followed u (each_alias_of ts)) ≡ false) × (at ≡ a)
   same_use n m at a ts us e o f =
       let d : n ≡ m = cc in
       let g : ts ≡ us = cc in
       (subst (λ z. own z ≡ true) (sym d) o,
-        subst (λ z. use_fits known (known.synonyms z) z k (each_followed u (each_alias_in known ts)) ≡ false) (sym d)
-        (subst (λ z. use_fits known (known.synonyms m) m k (each_followed u (each_alias_in known z)) ≡ false) (sym g) f),
+        subst (λ z. use_fits known (known.synonyms z) z k (each_followed u (each_alias_of ts)) ≡ false) (sym d)
+        (subst (λ z. use_fits known (known.synonyms m) m k (each_followed u (each_alias_of z)) ≡ false) (sym g) f),
         cc)
 
-  here_wrong : (n m : ℕ) (at a : At) (ts us : Parts) → use_of n at ts ≡ use_of m a us → own m ≡ true → use_fits known (known.synonyms m) m k (each_followed u (each_alias_in known us)) ≡ false
+  here_wrong : (n m : ℕ) (at a : At) (ts us : Parts) → use_of n at ts ≡ use_of m a us → own m ≡ true → use_fits known (known.synonyms m) m k (each_followed u (each_alias_of us)) ≡ false
       → IsOneOf (breach 10 a) (wrong known own k u (use_of n at ts))
   here_wrong n m at a ts us e o f =
       let r = same_use n m at a ts us e o f in
-      one_of_left (breach 10 a) (wrong_use (own n) (use_fits known (known.synonyms n) n k (each_followed u (each_alias_in known ts))) at) (each_wrong known own k u ts)
-      (subst (λ z. IsOneOf (breach 10 z) (wrong_use (own n) (use_fits known (known.synonyms n) n k (each_followed u (each_alias_in known ts))) at)) r.2
-        (wrong_use_has (own n) (use_fits known (known.synonyms n) n k (each_followed u (each_alias_in known ts))) at r.0 r.1))
+      one_of_left (breach 10 a) (wrong_use (own n) (use_fits known (known.synonyms n) n k (each_followed u (each_alias_of ts))) at) (each_wrong known own k u ts)
+      (subst (λ z. IsOneOf (breach 10 z) (wrong_use (own n) (use_fits known (known.synonyms n) n k (each_followed u (each_alias_of ts))) at)) r.2
+        (wrong_use_has (own n) (use_fits known (known.synonyms n) n k (each_followed u (each_alias_of ts))) at r.0 r.1))
 
   mutual
-    pub wrong_has : (t : Resolved) (n : ℕ) (at : At) (ts : Parts) → Has t (use_of n at ts) → own n ≡ true → use_fits known (known.synonyms n) n k (each_followed u (each_alias_in known ts)) ≡ false → IsOneOf (breach 10 at) (wrong known own k u t)
+    pub wrong_has : (t : Resolved) (n : ℕ) (at : At) (ts : Parts) → Has t (use_of n at ts) → own n ≡ true → use_fits known (known.synonyms n) n k (each_followed u (each_alias_of ts)) ≡ false → IsOneOf (breach 10 at) (wrong known own k u t)
     wrong_has (parameter i) n at ts i' o f = cc
     wrong_has (use_of m a us) n at ts (inl e) o f = here_wrong m n a at us ts e o f
-    wrong_has (use_of m a us) n at ts (inr i) o f = one_of_right (breach 10 at) (wrong_use (own m) (use_fits known (known.synonyms m) m k (each_followed u (each_alias_in known us))) a) (each_wrong known own k u us) (each_wrong_has us n at ts i o f)
+    wrong_has (use_of m a us) n at ts (inr i) o f = one_of_right (breach 10 at) (wrong_use (own m) (use_fits known (known.synonyms m) m k (each_followed u (each_alias_of us))) a) (each_wrong known own k u us) (each_wrong_has us n at ts i o f)
     wrong_has (other us) n at ts (inl e) o f = cc
     wrong_has (other us) n at ts (inr i) o f = each_wrong_has us n at ts i o f
 
-    pub each_wrong_has : (us : Parts) (n : ℕ) (at : At) (ts : Parts) → EachHas us (use_of n at ts) → own n ≡ true → use_fits known (known.synonyms n) n k (each_followed u (each_alias_in known ts)) ≡ false → IsOneOf (breach 10 at) (each_wrong known own k u us)
+    pub each_wrong_has : (us : Parts) (n : ℕ) (at : At) (ts : Parts) → EachHas us (use_of n at ts) → own n ≡ true → use_fits known (known.synonyms n) n k (each_followed u (each_alias_of ts)) ≡ false → IsOneOf (breach 10 at) (each_wrong known own k u us)
     each_wrong_has no_part n at ts i o f = absurd i
     each_wrong_has (next_part t us) n at ts (inl i) o f = one_of_left (breach 10 at) (wrong known own k u t) (each_wrong known own k u us) (wrong_has t n at ts i o f)
     each_wrong_has (next_part t us) n at ts (inr i) o f = one_of_right (breach 10 at) (wrong known own k u t) (each_wrong known own k u us) (each_wrong_has us n at ts i o f)

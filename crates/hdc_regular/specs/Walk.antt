@@ -15,11 +15,10 @@ abbrev pub each_alias_of : Parts → List (Option ℕ)
 each_alias_of no_part = []
 each_alias_of (next_part t ts) = alias_of t ∷ each_alias_of ts
 
--- what is known of declarations: which are synonyms, which variable the meaning of a synonym is, and whether the uses in it are
--- in order for a head of so many variables, where these are the variables that its arguments are
+-- what is known of declarations: which are synonyms, and whether the uses in the meaning of a synonym are in order for a head of
+-- so many variables, where these are the variables that its arguments are
 pub record Tables : Type 0 where
   pub synonyms : ℕ → Bool
-  pub alias : ℕ → Option ℕ
   pub fits : ℕ → ℕ → List (Option ℕ) → Bool
 
 -- a variable for which another may stand
@@ -33,21 +32,6 @@ each_followed u (a ∷ vs) = followed u a ∷ each_followed u vs
 
 abbrev pub one_of : List (Option ℕ) → ℕ → Option ℕ
 one_of vs j = slice_index_or vs j None
-
-abbrev pub alias_used : Bool → Option ℕ → List (Option ℕ) → Option ℕ
-alias_used false a vs = None
-alias_used true a vs = followed (one_of vs) a
-
--- the variable that a type is with its synonyms expanded
-abbrev mutual
-  pub alias_in : Tables → Resolved → Option ℕ
-  alias_in known (parameter i) = Some i
-  alias_in known (use_of n at ts) = alias_used (known.synonyms n) (known.alias n) (each_alias_in known ts)
-  alias_in known (other ts) = None
-
-  pub each_alias_in : Tables → Parts → List (Option ℕ)
-  each_alias_in known no_part = []
-  each_alias_in known (next_part t ts) = alias_in known t ∷ each_alias_in known ts
 
 abbrev pub is_variable : ℕ → Option ℕ → Bool
 is_variable i None = false
@@ -75,9 +59,18 @@ wrong_use false b at = []
 abbrev mutual
   pub wrong : Tables → (ℕ → Bool) → ℕ → (ℕ → Option ℕ) → Resolved → List Breach
   wrong known own k u (parameter i) = []
-  wrong known own k u (use_of n at ts) = wrong_use (own n) (use_fits known (known.synonyms n) n k (each_followed u (each_alias_in known ts))) at ++ each_wrong known own k u ts
+  wrong known own k u (use_of n at ts) = wrong_use (own n) (use_fits known (known.synonyms n) n k (each_followed u (each_alias_of ts))) at ++ each_wrong known own k u ts
   wrong known own k u (other ts) = each_wrong known own k u ts
 
   pub each_wrong : Tables → (ℕ → Bool) → ℕ → (ℕ → Option ℕ) → Parts → List Breach
   each_wrong known own k u no_part = []
   each_wrong known own k u (next_part t ts) = wrong known own k u t ++ each_wrong known own k u ts
+
+-- nothing is broken
+abbrev pub is_nothing : List Breach → Bool
+is_nothing [] = true
+is_nothing (b ∷ bs) = false
+
+-- the group with this number, by the numbers of declarations
+abbrev pub is_in_group : List ℕ → ℕ → ℕ → Bool
+is_in_group numbers group n = slice_index_or numbers n 0 == group
