@@ -4,3 +4,4 @@ pub mod Groups
 pub mod Components
 pub mod Walking
 pub mod Judging
+pub mod PartMirror

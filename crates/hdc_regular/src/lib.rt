@@ -2,3 +2,5 @@
 #![tactic(auto)]
 
 mod laws;
+mod part;
+mod standing;

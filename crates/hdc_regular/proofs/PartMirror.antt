@@ -1,0 +1,19 @@
+-- What a part in memory holds, one equation for each kind.
+use Rattle.std.proofs.Common.{◌≡◌, ℕ, List, [], ◌∷◌, map, refl, sym, ◌∙◌, ap}
+use Rattle.hdc_base.specs.declared.place.At.{At}
+use Rattle.hdc_regular.specs.declared.part.Part.{Part, Part-F, fold-roll-Part}
+use Rattle.hdc_regular.specs.declared.part.Part.TheVariants as v_part
+use Rattle.hdc_regular.specs.Resolved.{Resolved, use_of, other, next_part}
+use Rattle.hdc_regular.specs.PartMirror.{all_parts, part_step, part_of, parts_of}
+
+parts_each : (ts : List Part) → all_parts (map part_of ts) ≡ parts_of ts
+parts_each [] = refl
+parts_each (t ∷ ts) = ap (λ z. next_part (part_of t) z) (parts_each ts)
+
+pub part_use : (n : ℕ) (at : At) (ts : List Part) → part_of (v_part.Use n at ts) ≡ use_of n at (parts_of ts)
+part_use n at ts = ap part_of (sym (v_part.rolls-Use n at ts)) ∙ fold-roll-Part Resolved part_step (Part-F.Use n at ts) ∙ ap (λ z. use_of n at z) (parts_each ts)
+
+pub part_other : (ts : List Part) → part_of (v_part.Other ts) ≡ other (parts_of ts)
+part_other ts = ap part_of (sym (v_part.rolls-Other ts)) ∙ fold-roll-Part Resolved part_step (Part-F.Other ts) ∙ ap (λ z. other z) (parts_each ts)
+
+pub ruleset mirrored_parts = (part_use, part_other)
