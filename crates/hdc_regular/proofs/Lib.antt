@@ -5,3 +5,4 @@ pub mod Components
 pub mod Walking
 pub mod Judging
 pub mod PartMirror
+pub mod BuiltTypes

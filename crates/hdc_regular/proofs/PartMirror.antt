@@ -1,10 +1,10 @@
 -- What a part in memory holds, one equation for each kind.
-use Rattle.std.proofs.Common.{◌≡◌, ℕ, List, [], ◌∷◌, map, refl, sym, ◌∙◌, ap}
+use Rattle.std.proofs.Common.{◌≡◌, ℕ, List, [], ◌∷◌, ◌++◌, map, refl, sym, ◌∙◌, ap}
 use Rattle.hdc_base.specs.declared.place.At.{At}
 use Rattle.hdc_regular.specs.declared.part.Part.{Part, Part-F, fold-roll-Part}
 use Rattle.hdc_regular.specs.declared.part.Part.TheVariants as v_part
-use Rattle.hdc_regular.specs.Resolved.{Resolved, use_of, other, next_part}
-use Rattle.hdc_regular.specs.PartMirror.{all_parts, part_step, part_of, parts_of}
+use Rattle.hdc_regular.specs.Resolved.{Resolved, use_of, other, Parts, no_part, next_part}
+use Rattle.hdc_regular.specs.PartMirror.{all_parts, part_step, part_of, parts_of, joined}
 
 parts_each : (ts : List Part) → all_parts (map part_of ts) ≡ parts_of ts
 parts_each [] = refl
@@ -17,3 +17,23 @@ pub part_other : (ts : List Part) → part_of (v_part.Other ts) ≡ other (parts
 part_other ts = ap part_of (sym (v_part.rolls-Other ts)) ∙ fold-roll-Part Resolved part_step (Part-F.Other ts) ∙ ap (λ z. other z) (parts_each ts)
 
 pub ruleset mirrored_parts = (part_use, part_other)
+
+-- ---- parts one behind another
+
+joined_behind : (ts us vs : Parts) → joined (joined ts us) vs ≡ joined ts (joined us vs)
+joined_behind no_part us vs = refl
+joined_behind (next_part t ts) us vs = ap (λ z. next_part t z) (joined_behind ts us vs)
+
+joined_nothing : (ts : Parts) → joined ts no_part ≡ ts
+joined_nothing no_part = refl
+joined_nothing (next_part t ts) = ap (λ z. next_part t z) (joined_nothing ts)
+
+one_more_part : (ts : List Part) (t : Part) → parts_of (ts ++ t ∷ []) ≡ joined (parts_of ts) (next_part (part_of t) no_part)
+one_more_part [] t = refl
+one_more_part (u ∷ ts) t = ap (λ z. next_part (part_of u) z) (one_more_part ts t)
+
+-- one more part, and more behind it
+pub pushed_part : (ts : List Part) (t : Part) (us : Parts) → joined (parts_of (ts ++ t ∷ [])) us ≡ joined (parts_of ts) (next_part (part_of t) us)
+pushed_part ts t us = ap (λ z. joined z us) (one_more_part ts t) ∙ joined_behind (parts_of ts) (next_part (part_of t) no_part) us
+
+pub ruleset parts_in_order = (pushed_part, joined_nothing, joined_behind, one_more_part)

@@ -3,3 +3,7 @@ pub mod Expansion
 pub mod Named
 pub mod Walk
 pub mod PartMirror
+pub mod Standings
+pub mod Resolving
+pub mod Irregular
+pub mod Building

@@ -32,3 +32,8 @@ declared_as declared.Neither = neither
 abbrev pub each_declared_as : List Declared → List Declaration
 each_declared_as [] = []
 each_declared_as (d ∷ ds) = declared_as d ∷ each_declared_as ds
+
+-- parts, and more behind them
+abbrev pub joined : Parts → Parts → Parts
+joined no_part us = us
+joined (next_part t ts) us = next_part t (joined ts us)

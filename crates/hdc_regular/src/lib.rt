@@ -1,6 +1,8 @@
 //! Data types that are not regular.
 #![tactic(auto)]
 
+mod building;
 mod laws;
+mod outline;
 mod part;
 mod standing;
