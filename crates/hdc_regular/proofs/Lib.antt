@@ -6,3 +6,4 @@ pub mod Walking
 pub mod Judging
 pub mod PartMirror
 pub mod BuiltTypes
+pub mod ChosenUses

@@ -7,3 +7,4 @@ pub mod Standings
 pub mod Resolving
 pub mod Irregular
 pub mod Building
+pub mod Choosing
