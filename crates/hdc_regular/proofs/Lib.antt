@@ -7,3 +7,5 @@ pub mod Judging
 pub mod PartMirror
 pub mod BuiltTypes
 pub mod ChosenUses
+pub mod Pushing
+pub mod Applied

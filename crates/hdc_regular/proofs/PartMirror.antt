@@ -20,15 +20,15 @@ pub ruleset mirrored_parts = (part_use, part_other)
 
 -- ---- parts one behind another
 
-joined_behind : (ts us vs : Parts) → joined (joined ts us) vs ≡ joined ts (joined us vs)
+pub joined_behind : (ts us vs : Parts) → joined (joined ts us) vs ≡ joined ts (joined us vs)
 joined_behind no_part us vs = refl
 joined_behind (next_part t ts) us vs = ap (λ z. next_part t z) (joined_behind ts us vs)
 
-joined_nothing : (ts : Parts) → joined ts no_part ≡ ts
+pub joined_nothing : (ts : Parts) → joined ts no_part ≡ ts
 joined_nothing no_part = refl
 joined_nothing (next_part t ts) = ap (λ z. next_part t z) (joined_nothing ts)
 
-one_more_part : (ts : List Part) (t : Part) → parts_of (ts ++ t ∷ []) ≡ joined (parts_of ts) (next_part (part_of t) no_part)
+pub one_more_part : (ts : List Part) (t : Part) → parts_of (ts ++ t ∷ []) ≡ joined (parts_of ts) (next_part (part_of t) no_part)
 one_more_part [] t = refl
 one_more_part (u ∷ ts) t = ap (λ z. next_part (part_of u) z) (one_more_part ts t)
 

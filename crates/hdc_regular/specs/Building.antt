@@ -1,5 +1,5 @@
 -- Resolved types of which only that is built which their expansions hold.
-use Rattle.std.specs.Prelude.{ℕ, zero, suc, ◌==◌, Bool, true, false, List, [], ◌∷◌, Option, Some, None, slice_index_or}
+use Rattle.std.specs.Prelude.{ℕ, suc, ◌==◌, Bool, true, false, List, [], Option, Some, None, slice_index_or}
 use Rattle.hdc_base.specs.declared.place.At.{At}
 use Rattle.hdc_written.specs.Scopes.{Binding, standing_for}
 use Rattle.hdc_written.specs.WrittenTypes.{WrittenType, type_constructor, type_variable, unit_type, type_in_parentheses, tuple_type, list_type, arrow_type, Types, no_type, next_type}

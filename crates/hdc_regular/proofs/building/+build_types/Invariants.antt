@@ -1,4 +1,4 @@
-use Rattle.std.proofs.Common.{◌≡◌, ◌+◌, suc, drop}
+use Rattle.std.proofs.Common.{◌≡◌, suc, drop}
 use Rattle.hdc_written.specs.TypeMirror.{each_type, atype_of, comma_type_of, arrow_type_of}
 use Rattle.hdc_regular.specs.Resolved.{part_at}
 use Rattle.hdc_regular.specs.PartMirror.{parts_of, joined}
