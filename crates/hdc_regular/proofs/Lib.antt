@@ -9,3 +9,5 @@ pub mod BuiltTypes
 pub mod ChosenUses
 pub mod Pushing
 pub mod Applied
+pub mod Collecting
+pub mod Flags

@@ -8,3 +8,4 @@ pub mod Resolving
 pub mod Irregular
 pub mod Building
 pub mod Choosing
+pub mod Contents

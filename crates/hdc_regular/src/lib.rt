@@ -2,7 +2,9 @@
 #![tactic(auto)]
 
 mod building;
+mod contents;
 mod laws;
 mod outline;
 mod part;
+mod source;
 mod standing;
