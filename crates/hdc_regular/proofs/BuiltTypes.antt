@@ -1,5 +1,5 @@
 -- What is built expands as what is written, and holds no more.
-use Rattle.std.proofs.Common.{rules, arith, ◌≡◌, ◌⊎◌, inl, inr, ℕ, zero, suc, ◌+◌, ◌==◌, Bool, true, false, List, [], ◌∷◌, Option, Some, None, get_or, refl, sym, ap, subst, ◌∙◌, add-zero}
+use Rattle.std.proofs.Common.{arith, ◌≡◌, ◌⊎◌, inl, inr, ℕ, zero, suc, ◌+◌, ◌==◌, Bool, true, false, List, Option, Some, None, refl, sym, ap, subst, ◌∙◌, add-zero}
 use Rattle.hdc_base.specs.declared.place.At.{At}
 use Rattle.hdc_written.specs.Scopes.{Binding, standing_for}
 use Rattle.hdc_written.specs.WrittenTypes.{WrittenType, type_constructor, type_variable, unit_type, type_in_parentheses, tuple_type, list_type, arrow_type, Types, no_type, next_type}
@@ -12,7 +12,7 @@ use Rattle.hdc_regular.specs.Expansion.{placed, each_placed, used, expanded, eac
 use Rattle.hdc_regular.specs.Walk.{alias_of}
 use Rattle.hdc_regular.specs.Resolving.{variable, arrows, used_where, applied, resolved, each_resolved}
 use Rattle.hdc_regular.specs.Building.{outline_at, is_held, held_part, held_from, built_synonym, built_where, built_use, built, each_built}
-use Rattle.hdc_regular.proofs.Within.{IsProper, part_of_each, each_of_part}
+use Rattle.hdc_regular.proofs.Within.{each_of_part}
 use Rattle.hdc_regular.proofs.Expanding.{part_expanded, OnlyHeld, IsExact, EachExact}
 use Rattle.hdc_regular.proofs.Groups.{UsesOf}
 

@@ -72,13 +72,13 @@ mutual
 -- ---- declarations
 
 -- a synonym has its meaning alone
-synonym_body : (d : Declaration) → is_synonym d ≡ true → body_of d ≡ next_part (meaning_of d) no_part
+pub synonym_body : (d : Declaration) → is_synonym d ≡ true → body_of d ≡ next_part (meaning_of d) no_part
 synonym_body (data_type k ts) e = cc
 synonym_body (synonym t) e = refl
 synonym_body neither e = cc
 
 -- any other its fields
-data_body : (d : Declaration) → is_synonym d ≡ false → body_of d ≡ fields_of d
+pub data_body : (d : Declaration) → is_synonym d ≡ false → body_of d ≡ fields_of d
 data_body (data_type k ts) e = refl
 data_body (synonym t) e = cc
 data_body neither e = refl

@@ -113,10 +113,10 @@ module _ (ds : List Declaration) (meanings : ℕ → Resolved) (rank : ℕ → �
   abbrev pub AreJudged : Type 0
   AreJudged = (n : ℕ) → synonyms_of ds n ≡ true → (k : ℕ) (vs : List (Option ℕ)) → fits n k vs ≡ is_nothing (each_wrong known_of (own_group n) k (one_of vs) (body_of (declaration_at ds n)))
 
-  together : (a b : ℕ) → own_group b a ≡ true → get_or numbers a 0 ≡ get_or numbers b 0
+  pub together : (a b : ℕ) → own_group b a ≡ true → get_or numbers a 0 ≡ get_or numbers b 0
   together a b e = search rules
 
-  own_of_together : (a b : ℕ) → get_or numbers a 0 ≡ get_or numbers b 0 → own_group b a ≡ true
+  pub own_of_together : (a b : ℕ) → get_or numbers a 0 ≡ get_or numbers b 0 → own_group b a ≡ true
   own_of_together a b e = search rules
 
   apart_in : (e n : ℕ) (at : At) (us : Parts) → EachHas (body_of (declaration_at ds e)) (use_of n at us) → synonyms_of ds n ≡ true

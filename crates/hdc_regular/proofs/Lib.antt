@@ -11,3 +11,5 @@ pub mod Pushing
 pub mod Applied
 pub mod Collecting
 pub mod Flags
+pub mod Meanings
+pub mod Reduced

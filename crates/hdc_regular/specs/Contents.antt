@@ -1,11 +1,9 @@
 -- What stands in types.
-use Rattle.std.specs.Prelude.{ℕ, zero, suc, ◌↔◌, Bool, true, false, List, [], ◌∷◌, ◌++◌, IsTrue, Option}
+use Rattle.std.specs.Prelude.{ℕ, zero, suc, Bool, true, false, List, [], ◌∷◌, ◌++◌, Option}
 use Rattle.hdc_base.specs.declared.place.At.{At}
-use Rattle.hdc_graph.specs.Lists.{Has}
 use Rattle.hdc_regular.specs.declared.contents.Usage.{Usage}
 use Rattle.hdc_regular.specs.Resolved.{Resolved, parameter, use_of, other, Parts, no_part, next_part}
 use Rattle.hdc_regular.specs.Walk.{each_alias_of}
-use Rattle.hdc_regular.specs.Building.{is_held}
 
 -- the variables of a type, in its order
 abbrev mutual

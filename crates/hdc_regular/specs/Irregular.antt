@@ -1,5 +1,5 @@
 -- Data types that are not regular.
-use Rattle.std.specs.Prelude.{◌≡◌, ℕ, zero, ◌≤◌, List, ◌++◌, length, Bool}
+use Rattle.std.specs.Prelude.{◌≡◌, ℕ, ◌≤◌, List, ◌++◌, length, Bool}
 use Rattle.hdc_tree.specs.declared.program.Top.{Top}
 use Rattle.hdc_graph.specs.Needs.{AreCyclic}
 use Rattle.hdc_written.specs.declared.breach.Breach.{Breach}

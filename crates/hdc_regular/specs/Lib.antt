@@ -9,3 +9,4 @@ pub mod Irregular
 pub mod Building
 pub mod Choosing
 pub mod Contents
+pub mod Model

@@ -1,5 +1,5 @@
 -- What the names of types stand for in a text, where its declarations are numbered.
-use Rattle.std.specs.Prelude.{ℕ, zero, suc, Bool, true, false, List, [], ◌∷◌, ◌++◌, length, slice_index_or}
+use Rattle.std.specs.Prelude.{ℕ, suc, Bool, true, false, List, [], ◌∷◌, ◌++◌, length, slice_index_or}
 use Rattle.hdc_tree.specs.declared.program.Top.{Top}
 use Rattle.hdc_tree.specs.declared.program.Top.TheVariants as top
 use Rattle.hdc_written.specs.declared.breach.Breach.{Breach}

@@ -6,5 +6,4 @@ mod contents;
 mod laws;
 mod outline;
 mod part;
-mod source;
 mod standing;
