@@ -16,7 +16,7 @@ in_nothing : (n : ℕ) → Contains [] n → ⊥
 in_nothing n (k, lt, e) = omega (arith, lt)
 
 -- the first item of a list is in it
-in_first : (n : ℕ) (ns : List ℕ) → Contains (n ∷ ns) n
+pub in_first : (n : ℕ) (ns : List ℕ) → Contains (n ∷ ns) n
 in_first n ns = (zero, omega arith, refl)
 
 in_later : (n m : ℕ) (ns : List ℕ) → Contains ns n → Contains (m ∷ ns) n

@@ -13,3 +13,4 @@ pub mod Collecting
 pub mod Flags
 pub mod Meanings
 pub mod Reduced
+pub mod NamedTypes
