@@ -9,7 +9,7 @@ use Rattle.hdc_regular.specs.Named.{named_needs}
 use Rattle.hdc_regular.proofs.Groups.{AreSolved, UsesType, used_reached, reached_by_names, reached_by_fields, reaches_through}
 
 -- a node that needs another is one of the graph
-needing_below : (g : Nodes) (a b : ℕ) → Needs g a b → a < length g
+pub needing_below : (g : Nodes) (a b : ℕ) → Needs g a b → a < length g
 needing_below g a b (k, lt, e) = by (cases_lt a (length g))
   where
     by : (a < length g) ⊎ (length g ≤ a) → a < length g

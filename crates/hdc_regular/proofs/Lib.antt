@@ -14,3 +14,5 @@ pub mod Flags
 pub mod Meanings
 pub mod Reduced
 pub mod NamedTypes
+pub mod Ranks
+pub mod Whole

@@ -10,3 +10,4 @@ pub mod Building
 pub mod Choosing
 pub mod Contents
 pub mod Model
+pub mod Built
