@@ -66,17 +66,17 @@ pub record IsOutline (outline : Outline) (meaning : Resolved) : Type 0 where
   pub all : (j : ℕ) → Has meaning (parameter j) → is_held outline.holds j ≡ true
 
 module _ (synonyms : ℕ → Bool) (meanings : ℕ → Resolved) (outlines : List Outline) (names : List (Binding Standing)) (params : List (Binding ℕ)) where
-  -- a name that stands for a data type or a synonym stands for one, and of the synonym it is known what it means
-  abbrev pub IsKnown : Option Standing → Type 0
-  IsKnown None = Unit {0}
-  IsKnown (Some (standing.DataType n)) = synonyms n ≡ false
-  IsKnown (Some (standing.Synonym n k)) = (synonyms n ≡ true) × IsOutline (outline_at outlines n) (meanings n)
-  IsKnown (Some standing.NotExpanded) = Unit {0}
+  -- a name that stands for a data type or a synonym stands for one, and of a synonym with so many arguments it is known what it means
+  abbrev pub IsKnown : ℕ → Option Standing → Type 0
+  IsKnown count None = Unit {0}
+  IsKnown count (Some (standing.DataType n)) = synonyms n ≡ false
+  IsKnown count (Some (standing.Synonym n k)) = (synonyms n ≡ true) × ((k == count) ≡ true → IsOutline (outline_at outlines n) (meanings n))
+  IsKnown count (Some standing.NotExpanded) = Unit {0}
 
   -- so does each constructor of a type
   abbrev mutual
     pub AreKnown : WrittenType → Type 0
-    AreKnown (type_constructor c ts) = IsKnown (standing_for c.text names) × EachKnown ts
+    AreKnown (type_constructor c ts) = IsKnown (count_types ts) (standing_for c.text names) × EachKnown ts
     AreKnown (type_variable x) = Unit {0}
     AreKnown (unit_type a) = Unit {0}
     AreKnown (type_in_parentheses a t) = AreKnown t
@@ -105,14 +105,14 @@ module _ (synonyms : ℕ → Bool) (meanings : ℕ → Resolved) (outlines : Lis
       the : (j : ℕ) → j ≡ 0 + j
       the j = omega arith
 
-  where_same : (b : Bool) (n : ℕ) (at : At) (bs rs : Parts) → synonyms n ≡ true → IsOutline (outline_at outlines n) (meanings n) → each_expanded synonyms meanings bs ≡ each_expanded synonyms meanings rs
+  where_same : (b : Bool) (n : ℕ) (at : At) (bs rs : Parts) → synonyms n ≡ true → (b ≡ true → IsOutline (outline_at outlines n) (meanings n)) → each_expanded synonyms meanings bs ≡ each_expanded synonyms meanings rs
       → expanded synonyms meanings (built_where b (outline_at outlines n) n at bs) ≡ expanded synonyms meanings (used_where b n at rs)
   where_same true n at bs rs is o e =
-      synonym_same n at bs rs (outline_at outlines n).alias (outline_at outlines n).holds is o.alias o.all e
+      synonym_same n at bs rs (outline_at outlines n).alias (outline_at outlines n).holds is (o refl).alias (o refl).all e
       ∙ ap (λ z. used z (meanings n) n at (each_expanded synonyms meanings rs)) (sym is)
   where_same false n at bs rs is o e = ap (λ z. other z) e
 
-  use_same : (o : Option Standing) (count : ℕ) (at : At) (bs rs : Parts) → IsKnown o → each_expanded synonyms meanings bs ≡ each_expanded synonyms meanings rs
+  use_same : (o : Option Standing) (count : ℕ) (at : At) (bs rs : Parts) → IsKnown count o → each_expanded synonyms meanings bs ≡ each_expanded synonyms meanings rs
       → expanded synonyms meanings (built_use outlines o count at bs) ≡ expanded synonyms meanings (applied o count at rs)
   use_same None count at bs rs h e = ap (λ z. other z) e
   use_same (Some (standing.DataType n)) count at bs rs h e = ap (λ z. used (synonyms n) (meanings n) n at z) e
@@ -173,11 +173,11 @@ module _ (synonyms : ℕ → Bool) (meanings : ℕ → Resolved) (outlines : Lis
       by j true e = inr (held j e)
       by j false e = inl (part_not_held holds 0 j ts (subst (λ z. is_held holds z ≡ false) (the j) e))
 
-  where_exact : (b : Bool) (n : ℕ) (at : At) (ts : Parts) → synonyms n ≡ true → IsOutline (outline_at outlines n) (meanings n) → EachExact synonyms meanings ts → IsExact synonyms meanings (built_where b (outline_at outlines n) n at ts)
-  where_exact true n at ts is o x = synonym_exact n at ts (outline_at outlines n).alias (outline_at outlines n).holds is o.alias o.held x
+  where_exact : (b : Bool) (n : ℕ) (at : At) (ts : Parts) → synonyms n ≡ true → (b ≡ true → IsOutline (outline_at outlines n) (meanings n)) → EachExact synonyms meanings ts → IsExact synonyms meanings (built_where b (outline_at outlines n) n at ts)
+  where_exact true n at ts is o x = synonym_exact n at ts (outline_at outlines n).alias (outline_at outlines n).holds is (o refl).alias (o refl).held x
   where_exact false n at ts is o x = x
 
-  use_exact : (o : Option Standing) (count : ℕ) (at : At) (ts : Parts) → IsKnown o → EachExact synonyms meanings ts → IsExact synonyms meanings (built_use outlines o count at ts)
+  use_exact : (o : Option Standing) (count : ℕ) (at : At) (ts : Parts) → IsKnown count o → EachExact synonyms meanings ts → IsExact synonyms meanings (built_use outlines o count at ts)
   use_exact None count at ts h x = x
   use_exact (Some (standing.DataType n)) count at ts h x = data_exact n at ts h x
   use_exact (Some (standing.Synonym n k)) count at ts h x = where_exact (k == count) n at ts h.0 h.1 x

@@ -11,3 +11,4 @@ pub mod Choosing
 pub mod Contents
 pub mod Model
 pub mod Built
+pub mod Outlines
