@@ -16,3 +16,4 @@ pub mod Reduced
 pub mod NamedTypes
 pub mod Ranks
 pub mod Whole
+pub mod Theorem
