@@ -17,3 +17,4 @@ pub mod NamedTypes
 pub mod Ranks
 pub mod Whole
 pub mod Theorem
+pub mod Demanded

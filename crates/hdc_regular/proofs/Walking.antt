@@ -25,7 +25,7 @@ mutual
   each_alias_placed at us no_part = refl
   each_alias_placed at us (next_part t ts) = ap (λ z. z ∷ each_alias_of (each_placed at us ts)) (alias_placed at us t) ∙ ap (λ z. followed (one_of (each_alias_of us)) (alias_of t) ∷ z) (each_alias_placed at us ts)
 
-one_followed : (u : ℕ → Option ℕ) (vs : List (Option ℕ)) (j : ℕ) → one_of (each_followed u vs) j ≡ followed u (one_of vs j)
+pub one_followed : (u : ℕ → Option ℕ) (vs : List (Option ℕ)) (j : ℕ) → one_of (each_followed u vs) j ≡ followed u (one_of vs j)
 one_followed u [] j = refl
 one_followed u (v ∷ vs) zero = refl
 one_followed u (v ∷ vs) (suc j) = one_followed u vs j

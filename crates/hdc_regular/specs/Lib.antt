@@ -12,3 +12,4 @@ pub mod Contents
 pub mod Model
 pub mod Built
 pub mod Outlines
+pub mod Demands

@@ -3,6 +3,7 @@
 
 mod building;
 mod contents;
+mod demand;
 mod laws;
 mod outline;
 mod part;
