@@ -18,3 +18,4 @@ pub mod Ranks
 pub mod Whole
 pub mod Theorem
 pub mod Demanded
+pub mod Ordering

@@ -1,5 +1,5 @@
 -- What synonyms ask of their arguments.
-use Rattle.std.specs.Prelude.{ℕ, zero, suc, ◌==◌, Bool, true, false, ◌&&◌, List, [], ◌∷◌, Option, Some, None, length, slice_index_or}
+use Rattle.std.specs.Prelude.{ℕ, zero, suc, ◌==◌, Bool, true, false, ◌&&◌, List, [], ◌∷◌, Option, Some, None, length, slice_index_or, slice_set}
 use Rattle.hdc_regular.specs.declared.contents.Usage.{Usage}
 use Rattle.hdc_regular.specs.declared.demand.Demand.{Demand}
 use Rattle.hdc_regular.specs.Walk.{one_of, is_variable}
@@ -95,3 +95,9 @@ by_own false s e vs d = d
 abbrev pub demanded : (ℕ → Bool) → (ℕ → Bool) → List Demand → List Usage → Demand → Demand
 demanded own synonyms demands [] d = d
 demanded own synonyms demands (x ∷ xs) d = demanded own synonyms demands xs (by_own (own x.number) (synonyms x.number) (demand_at demands x.number) x.arguments d)
+
+-- what is known to be asked once the synonyms with these numbers are looked at, in this order: where these are the uses in a
+-- declaration, and this says what is of the group of a declaration
+abbrev pub demands_by : (ℕ → ℕ → Bool) → (ℕ → Bool) → (ℕ → List Usage) → List ℕ → List Demand → List Demand
+demands_by own synonyms uses [] demands = demands
+demands_by own synonyms uses (n ∷ ns) demands = demands_by own synonyms uses ns (slice_set demands n (demanded (own n) synonyms demands (uses n) no_demand))

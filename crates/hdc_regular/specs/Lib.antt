@@ -13,3 +13,4 @@ pub mod Model
 pub mod Built
 pub mod Outlines
 pub mod Demands
+pub mod Order
