@@ -19,3 +19,4 @@ pub mod Whole
 pub mod Theorem
 pub mod Demanded
 pub mod Ordering
+pub mod OutlinesInOrder

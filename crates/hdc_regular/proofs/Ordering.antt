@@ -28,8 +28,7 @@ shifted Before n ns x (inr (inr h)) = inr h
 
 -- ---- demands
 
-module _ (own : ℕ → ℕ → Bool) (synonyms : ℕ → Bool) (uses : ℕ → List Usage) (Names : ℕ → ℕ → Type 0)
-    (irreflexive : (n : ℕ) → Names n n → ⊥) where
+module _ (own : ℕ → ℕ → Bool) (synonyms : ℕ → Bool) (uses : ℕ → List Usage) (Names : ℕ → ℕ → Type 0) where
   -- a synonym among these uses
   abbrev pub AreNamed : (ℕ → Type 0) → List Usage → Type 0
   AreNamed In [] = Unit {0}

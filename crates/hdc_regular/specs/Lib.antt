@@ -14,3 +14,4 @@ pub mod Built
 pub mod Outlines
 pub mod Demands
 pub mod Order
+pub mod Judged
