@@ -20,3 +20,4 @@ pub mod Theorem
 pub mod Demanded
 pub mod Ordering
 pub mod OutlinesInOrder
+pub mod Found

@@ -28,25 +28,25 @@ shifted Before n ns x (inr (inr h)) = inr h
 
 -- ---- demands
 
-module _ (own : ℕ → ℕ → Bool) (synonyms : ℕ → Bool) (uses : ℕ → List Usage) (Names : ℕ → ℕ → Type 0) where
-  -- a synonym among these uses
-  abbrev pub AreNamed : (ℕ → Type 0) → List Usage → Type 0
-  AreNamed In [] = Unit {0}
-  AreNamed In (x ∷ xs) = (synonyms x.number ≡ true → In x.number) × AreNamed In xs
+-- each synonym among these uses is one of these
+abbrev pub AreNamed : (ℕ → Bool) → (ℕ → Type 0) → List Usage → Type 0
+AreNamed synonyms In [] = Unit {0}
+AreNamed synonyms In (x ∷ xs) = (synonyms x.number ≡ true → In x.number) × AreNamed synonyms In xs
 
+module _ (own : ℕ → ℕ → Bool) (synonyms : ℕ → Bool) (uses : ℕ → List Usage) (Names : ℕ → ℕ → Type 0) where
   own_agree : (o s : Bool) (e f : Demand) (vs : List (Option ℕ)) (d : Demand) → (s ≡ true → e ≡ f) → by_own o s e vs d ≡ by_own o s f vs d
   own_agree true true e f vs d h = ap (λ z. by_use true z vs d) (h refl)
   own_agree true false e f vs d h = refl
   own_agree false s e f vs d h = refl
 
-  demanded_agree : (g : ℕ → Bool) (ds es : List Demand) (In : ℕ → Type 0) (xs : List Usage) (d : Demand) → AreNamed In xs → ((b : ℕ) → In b → demand_at ds b ≡ demand_at es b)
+  demanded_agree : (g : ℕ → Bool) (ds es : List Demand) (In : ℕ → Type 0) (xs : List Usage) (d : Demand) → AreNamed synonyms In xs → ((b : ℕ) → In b → demand_at ds b ≡ demand_at es b)
       → demanded g synonyms ds xs d ≡ demanded g synonyms es xs d
   demanded_agree g ds es In [] d named agree = refl
   demanded_agree g ds es In (x ∷ xs) d named agree =
       ap (demanded g synonyms ds xs) (own_agree (g x.number) (synonyms x.number) (demand_at ds x.number) (demand_at es x.number) x.arguments d (λ is. agree x.number (named.0 is)))
       ∙ demanded_agree g ds es In xs (by_own (g x.number) (synonyms x.number) (demand_at es x.number) x.arguments d) named.1 agree
 
-  module _ (named : (n : ℕ) → AreNamed (Names n) (uses n)) where
+  module _ (named : (n : ℕ) → AreNamed synonyms (Names n) (uses n)) where
     -- what is known of those that are done is what their uses demand by what is known, and they name none that is not done
     pub record AreDone (Done : ℕ → Type 0) (ds : List Demand) : Type 0 where
       pub demand : (n : ℕ) → Done n → demand_at ds n ≡ demanded (own n) synonyms ds (uses n) no_demand

@@ -139,7 +139,7 @@ built_each outlines names sounds n [] i = refl
 built_each outlines names sounds n (t ∷ ts) zero = let e : n ≡ n + 0 = omega arith in ap (λ z. built_declaration outlines names (get_or sounds z false) t) e
 built_each outlines names sounds n (t ∷ ts) (suc i) = let e : suc n + i ≡ n + suc i = omega arith in built_each outlines names sounds (suc n) ts i ∙ ap (λ z. built_declaration outlines names (get_or sounds z false) (get_or ts i top.Empty)) e
 
-size_built : (outlines : List Outline) (names : List (Binding Standing)) (sounds : List Bool) (n : ℕ) (ts : List Top) → length (each_built_declaration outlines names sounds n ts) ≡ length ts
+pub size_built : (outlines : List Outline) (names : List (Binding Standing)) (sounds : List Bool) (n : ℕ) (ts : List Top) → length (each_built_declaration outlines names sounds n ts) ≡ length ts
 size_built outlines names sounds n [] = refl
 size_built outlines names sounds n (t ∷ ts) = ap (λ z. suc z) (size_built outlines names sounds (suc n) ts)
 
