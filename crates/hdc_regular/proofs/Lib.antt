@@ -21,3 +21,5 @@ pub mod Demanded
 pub mod Ordering
 pub mod OutlinesInOrder
 pub mod Found
+pub mod GroupOrder
+pub mod TextOrder

@@ -180,7 +180,7 @@ module _ (ps ts : List Top) (sounds : List Bool) (before text : List ℕ)
 
   -- ---- a synonym needs those that it names
 
-  needs_before : (a b : ℕ) → a < length ps → synonyms_of all a ≡ true → UsesOf (Has (meaning_of (declaration_at all a))) b → Needs (synonym_needs ps) a b
+  pub needs_before : (a b : ℕ) → a < length ps → synonyms_of all a ≡ true → UsesOf (Has (meaning_of (declaration_at all a))) b → Needs (synonym_needs ps) a b
   needs_before a b lt is u =
       let same = at_before a lt in
       let h = synonym_top (names_before ps sounds) (get_or sounds a false) (get_or ps a top.Empty) (subst (λ z. is_synonym z ≡ true) same is) in
@@ -188,7 +188,7 @@ module _ (ps ts : List Top) (sounds : List Bool) (before text : List ℕ)
       subst (λ z. Contains z b) (sym (needs_each (declared_types 0 ps) ps a ∙ ap (top_needs (declared_types 0 ps)) h.is_top))
         (resolved_needs (names_before ps sounds) (params_from 0 h.synonym_of.params) (declared_types 0 ps) b b (link_before b) (type_exp_of h.synonym_of.meaning) v)
 
-  needs_text : (i b j : ℕ) → length ps + j ≡ b → synonyms_of all (length ps + i) ≡ true → UsesOf (Has (meaning_of (declaration_at all (length ps + i)))) b → Needs (synonym_needs ts) i j
+  pub needs_text : (i b j : ℕ) → length ps + j ≡ b → synonyms_of all (length ps + i) ≡ true → UsesOf (Has (meaning_of (declaration_at all (length ps + i)))) b → Needs (synonym_needs ts) i j
   needs_text i b j at is u =
       let same = at_text i in
       let h = synonym_top (names_of ps ts sounds) (get_or sounds (length ps + i) false) (get_or ts i top.Empty) (subst (λ z. is_synonym z ≡ true) same is) in
@@ -197,15 +197,15 @@ module _ (ps ts : List Top) (sounds : List Bool) (before text : List ℕ)
         (resolved_needs (names_of ps ts sounds) (params_from 0 h.synonym_of.params) (declared_types 0 ts) b j (link_text b j at) (type_exp_of h.synonym_of.meaning) v)
 
   -- a synonym of the prelude names none of the text
-  stays_before : (a b : ℕ) → a < length ps → synonyms_of all a ≡ true → UsesOf (Has (meaning_of (declaration_at all a))) b → b < length ps
+  pub stays_before : (a b : ℕ) → a < length ps → synonyms_of all a ≡ true → UsesOf (Has (meaning_of (declaration_at all a))) b → b < length ps
   stays_before a b lt is u =
       let need = needs_before a b lt is u in
       subst (λ z. b < z) (size_each_top_needs (declared_types 0 ps) ps) (ranked_before.closed a b need)
 
-  sound_before : (a : ℕ) → a < length ps → synonyms_of all a ≡ true → get_or sounds a false ≡ true
+  pub sound_before : (a : ℕ) → a < length ps → synonyms_of all a ≡ true → get_or sounds a false ≡ true
   sound_before a lt is = (synonym_top (names_before ps sounds) (get_or sounds a false) (get_or ps a top.Empty) (subst (λ z. is_synonym z ≡ true) (at_before a lt) is)).is_so
 
-  sound_text : (i : ℕ) → synonyms_of all (length ps + i) ≡ true → get_or sounds (length ps + i) false ≡ true
+  pub sound_text : (i : ℕ) → synonyms_of all (length ps + i) ≡ true → get_or sounds (length ps + i) false ≡ true
   sound_text i is = (synonym_top (names_of ps ts sounds) (get_or sounds (length ps + i) false) (get_or ts i top.Empty) (subst (λ z. is_synonym z ≡ true) (at_text i) is)).is_so
 
   below_number : (a : ℕ) → a < length ps → get_or before a 0 < length ps
@@ -240,7 +240,7 @@ module _ (ps ts : List Top) (sounds : List Bool) (before text : List ℕ)
       ∙ ap (λ z. z + length (each_declaration (names_of ps ts sounds) sounds (length ps) ts)) (size_each_declaration (names_before ps sounds) sounds 0 ps)
       ∙ ap (λ z. length ps + z) (size_each_declaration (names_of ps ts sounds) sounds (length ps) ts)
 
-  in_text : (i : ℕ) → synonyms_of all (length ps + i) ≡ true → i < length ts
+  pub in_text : (i : ℕ) → synonyms_of all (length ps + i) ≡ true → i < length ts
   in_text i is = by (cases_lt i (length ts))
     where
       none : length ts ≤ i → ⊥

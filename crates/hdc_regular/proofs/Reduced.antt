@@ -54,7 +54,7 @@ first_body s M (data_type k ts) e = cc
 first_body s M (synonym t) e = refl
 first_body s M neither e = cc
 
-of_meaning : (d : Declaration) (n : ℕ) → is_synonym d ≡ true → UsesOf (EachHas (body_of d)) n → UsesOf (Has (meaning_of d)) n
+pub of_meaning : (d : Declaration) (n : ℕ) → is_synonym d ≡ true → UsesOf (EachHas (body_of d)) n → UsesOf (Has (meaning_of d)) n
 of_meaning (data_type k ts) n e u = cc
 of_meaning (synonym t) n e (a, us, inl h) = (a, us, h)
 of_meaning (synonym t) n e (a, us, inr h) = absurd h
