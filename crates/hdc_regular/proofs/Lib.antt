@@ -23,3 +23,4 @@ pub mod OutlinesInOrder
 pub mod Found
 pub mod GroupOrder
 pub mod TextOrder
+pub mod Sound

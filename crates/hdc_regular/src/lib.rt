@@ -5,6 +5,8 @@ mod building;
 mod contents;
 mod demand;
 mod laws;
+mod names;
 mod outline;
 mod part;
+mod sounds;
 mod standing;
