@@ -24,3 +24,4 @@ pub mod Found
 pub mod GroupOrder
 pub mod TextOrder
 pub mod Sound
+pub mod Wants

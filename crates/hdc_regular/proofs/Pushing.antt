@@ -1,9 +1,10 @@
 -- Parts that are built one after another.
-use Rattle.std.proofs.Common.{Bool, ◌≡◌, ℕ, zero, suc, ◌+◌, ◌<◌, ◌≤◌, List, [], ◌∷◌, ◌++◌, length, get_or, drop, sym, ap, ◌∙◌, drop-cons, add-one}
+use Rattle.std.proofs.Common.{refl, Bool, ◌≡◌, ℕ, zero, suc, ◌+◌, ◌<◌, ◌≤◌, List, [], ◌∷◌, ◌++◌, length, get_or, drop, sym, ap, ◌∙◌, drop-cons, add-one}
 use Rattle.std.proofs.Math.ListN.{drop_of_length-le}
 use Rattle.hdc_written.specs.Scopes.{Binding}
 use Rattle.hdc_written.specs.WrittenTypes.{WrittenType}
-use Rattle.hdc_written.specs.TypeMirror.{each_type}
+use Rattle.hdc_tree.specs.declared.type_tree.Atype.{Atype}
+use Rattle.hdc_written.specs.TypeMirror.{each_type, atype_of}
 use Rattle.hdc_regular.specs.declared.outline.Outline.{Outline}
 use Rattle.hdc_regular.specs.declared.part.Part.{Part}
 use Rattle.hdc_regular.specs.declared.standing.Standing.{Standing}
@@ -56,3 +57,9 @@ first_and_more t ts us vs r rs none one b more =
     more
     ∙ ap (λ z. joined (parts_of z) rs) (one ∙ ap (λ z. z ++ t ∷ []) none)
     ∙ ap (λ z. next_part z rs) b
+
+-- types that are built one behind another
+pub built_both : (outlines : List Outline) (names : List (Binding Standing)) (params : List (Binding ℕ)) (xs ys : List Atype)
+    → each_built outlines names params (each_type atype_of (xs ++ ys)) ≡ joined (each_built outlines names params (each_type atype_of xs)) (each_built outlines names params (each_type atype_of ys))
+built_both outlines names params [] ys = refl
+built_both outlines names params (x ∷ xs) ys = ap (λ z. next_part (built outlines names params (atype_of x)) z) (built_both outlines names params xs ys)

@@ -75,6 +75,11 @@ abbrev pub with_order : ℕ → List (Option ℕ) → Demand → Demand
 with_order i [] d = d
 with_order i (a ∷ vs) d = with_order (suc i) vs (with_alias a i d)
 
+-- what stands for an argument is this variable, if it is wanted to be one
+abbrev pub with_optional : Option ℕ → Option ℕ → Demand → Demand
+with_optional None a d = d
+with_optional (Some i) a d = with_alias a i d
+
 -- these are the variables that are wanted
 abbrev pub with_wants : List (Option ℕ) → List (Option ℕ) → Demand → Demand
 with_wants [] vs d = d

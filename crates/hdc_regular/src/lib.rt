@@ -1,6 +1,7 @@
 //! Data types that are not regular.
 #![tactic(auto)]
 
+mod bodies;
 mod building;
 mod contents;
 mod demand;

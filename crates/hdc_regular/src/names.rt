@@ -106,7 +106,8 @@ pub(crate) fn bind_params<'t>(
     Ok(scope)
 }
 
-fn place_of(count: usize) -> Result<u32, AllocError>
+/// A place as that of a variable.
+pub(crate) fn place_of(count: usize) -> Result<u32, AllocError>
     ensures { IfOk result (λ place. place ≡ count) }
 {
     match u32::try_from(count) {
