@@ -4,6 +4,8 @@ use Rattle.std.proofs.Math.ListN.{drop_of_length-le}
 use Rattle.hdc_written.specs.Scopes.{Binding}
 use Rattle.hdc_written.specs.WrittenTypes.{WrittenType}
 use Rattle.hdc_tree.specs.declared.type_tree.Atype.{Atype}
+use Rattle.hdc_tree.specs.declared.program.BarConstr.{BarConstr}
+use Rattle.hdc_regular.specs.Resolving.{fields_behind}
 use Rattle.hdc_written.specs.TypeMirror.{each_type, atype_of}
 use Rattle.hdc_regular.specs.declared.outline.Outline.{Outline}
 use Rattle.hdc_regular.specs.declared.part.Part.{Part}
@@ -11,7 +13,7 @@ use Rattle.hdc_regular.specs.declared.standing.Standing.{Standing}
 use Rattle.hdc_regular.specs.Resolved.{Resolved, Parts, next_part, part_at}
 use Rattle.hdc_regular.specs.PartMirror.{part_of, parts_of, joined}
 use Rattle.hdc_regular.specs.Building.{is_held, held_part, held_from, built, each_built}
-use Rattle.hdc_regular.proofs.PartMirror.{pushed_part, joined_nothing}
+use Rattle.hdc_regular.proofs.PartMirror.{pushed_part, joined_nothing, joined_behind}
 
 -- the items from one on are that one and those behind it
 from_item : {X : Type 0} (xs : List X) (i : ℕ) (x : X) → i < length xs → x ≡ get_or xs i x → drop i xs ≡ x ∷ drop (i + 1) xs
@@ -63,3 +65,17 @@ pub built_both : (outlines : List Outline) (names : List (Binding Standing)) (pa
     → each_built outlines names params (each_type atype_of (xs ++ ys)) ≡ joined (each_built outlines names params (each_type atype_of xs)) (each_built outlines names params (each_type atype_of ys))
 built_both outlines names params [] ys = refl
 built_both outlines names params (x ∷ xs) ys = ap (λ z. next_part (built outlines names params (atype_of x)) z) (built_both outlines names params xs ys)
+
+-- ---- the fields of constructors
+
+module _ (outlines : List Outline) (names : List (Binding Standing)) (params : List (Binding ℕ)) (cs : List BarConstr) (i : ℕ) where
+  pub fields_step : (c : BarConstr) (ts us : List Part) → i < length cs → c ≡ get_or cs i c → parts_of us ≡ joined (parts_of ts) (each_built outlines names params (each_type atype_of c.constr.fields))
+      → joined (parts_of ts) (each_built outlines names params (each_type atype_of (fields_behind (drop i cs)))) ≡ joined (parts_of us) (each_built outlines names params (each_type atype_of (fields_behind (drop (i + 1) cs))))
+  fields_step c ts us lt e p =
+      ap (λ z. joined (parts_of ts) (each_built outlines names params (each_type atype_of (fields_behind z)))) (from_item cs i c lt e)
+      ∙ ap (joined (parts_of ts)) (built_both outlines names params c.constr.fields (fields_behind (drop (i + 1) cs)))
+      ∙ sym (joined_behind (parts_of ts) (each_built outlines names params (each_type atype_of c.constr.fields)) (each_built outlines names params (each_type atype_of (fields_behind (drop (i + 1) cs)))))
+      ∙ ap (λ z. joined z (each_built outlines names params (each_type atype_of (fields_behind (drop (i + 1) cs))))) (sym p)
+
+  pub fields_all : (ts : List Part) → length cs ≤ i → joined (parts_of ts) (each_built outlines names params (each_type atype_of (fields_behind (drop i cs)))) ≡ parts_of ts
+  fields_all ts ge = ap (λ z. joined (parts_of ts) (each_built outlines names params (each_type atype_of (fields_behind z)))) (drop_of_length-le cs ge) ∙ joined_nothing (parts_of ts)

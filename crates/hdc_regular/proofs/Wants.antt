@@ -1,9 +1,9 @@
 -- What is wanted of arguments, one after another.
-use Rattle.std.proofs.Common.{◌≡◌, ℕ, zero, suc, ◌+◌, ◌<◌, ◌≤◌, List, [], ◌∷◌, ◌++◌, Option, Some, None, length, get_or, drop, refl, sym, ap, ◌∙◌, arith, drop-cons, add-one}
+use Rattle.std.proofs.Common.{◌&&◌, ◌≡◌, ℕ, zero, suc, ◌+◌, ◌<◌, ◌≤◌, List, [], ◌∷◌, ◌++◌, Option, Some, None, length, get_or, drop, refl, sym, ap, ◌∙◌, arith, drop-cons, add-one}
 use Rattle.std.proofs.Math.ListN.{set}
 use Rattle.hdc_regular.specs.declared.demand.Demand.{Demand}
 use Rattle.hdc_regular.specs.Walk.{one_of}
-use Rattle.hdc_regular.specs.Demands.{behind, want_kept, want_set, with_alias, with_order, with_optional, with_wants}
+use Rattle.hdc_regular.specs.Demands.{behind, is_wanted, all_wanted, want_kept, want_set, with_alias, with_order, with_optional, with_wants}
 
 pub want_behind : (ws : List (Option ℕ)) (j i : ℕ) → length ws ≤ j → want_set (ws ++ None ∷ []) j i ≡ want_set ws j i
 want_behind [] zero i h = refl
@@ -51,3 +51,18 @@ next_want ws vs i w d lt e =
     ∙ ap (λ z. with_wants (drop z ws) (drop z vs) (with_optional w (one_of vs i) d)) (sym (add-one i))
 
 pub ruleset wishes_one_by_one = (next_order, next_want)
+
+first_wanted : (w : Option ℕ) (ws vs : List (Option ℕ)) → all_wanted (w ∷ ws) vs ≡ (is_wanted w (one_of vs 0) && all_wanted ws (behind vs))
+first_wanted None ws vs = refl
+first_wanted (Some i) ws vs = refl
+
+pub next_wanted : (ws vs : List (Option ℕ)) (i : ℕ) (w : Option ℕ) → i < length ws → w ≡ get_or ws i w
+    → all_wanted (drop i ws) (drop i vs) ≡ (is_wanted w (one_of vs i) && all_wanted (drop (i + 1) ws) (drop (i + 1) vs))
+next_wanted ws vs i w lt e =
+    ap (λ z. all_wanted z (drop i vs)) (drop-cons ws i w lt ∙ ap (λ z. z ∷ drop (suc i) ws) (sym e))
+    ∙ first_wanted w (drop (suc i) ws) (drop i vs)
+    ∙ ap (λ z. is_wanted w (one_of (drop i vs) 0) && all_wanted (drop (suc i) ws) z) (behind_dropped vs i)
+    ∙ ap (λ z. is_wanted w z && all_wanted (drop (suc i) ws) (drop (suc i) vs)) (one_dropped vs i)
+    ∙ ap (λ z. is_wanted w (one_of vs i) && all_wanted (drop z ws) (drop z vs)) (sym (add-one i))
+
+pub ruleset wanted_one_by_one = (next_wanted)

@@ -21,6 +21,10 @@ abbrev pub behind : List (Option ℕ) → List (Option ℕ)
 behind [] = []
 behind (v ∷ vs) = vs
 
+abbrev pub is_wanted : Option ℕ → Option ℕ → Bool
+is_wanted None a = true
+is_wanted (Some i) a = is_variable i a
+
 abbrev pub all_wanted : List (Option ℕ) → List (Option ℕ) → Bool
 all_wanted [] vs = true
 all_wanted (None ∷ ws) vs = all_wanted ws (behind vs)

@@ -130,6 +130,15 @@ impl Demand {
         self.add_order(aliases)
     }
 
+    /// Whether what is asked is so, for a head of so many variables.
+    pub(crate) fn is_met(&self, count: usize, aliases: &[Option<u32>]) -> bool
+        ensures { result ≡ spec.met self.now count aliases.now }
+    {
+        self.possible
+            && is_count(self.count, count)
+            && are_wanted(self.wanted.as_slice(), aliases)
+    }
+
     // An argument is this variable.
     fn add_want(&mut self, place: u32, want: u32) -> Result<(), AllocError>
         ensures { OnOk result (self.new ≡ spec.with_want place want self.old) }
@@ -137,6 +146,42 @@ impl Demand {
         let holds = fits(alias_in(self.wanted.as_slice(), place as usize), want);
         self.require(holds);
         set_want(&mut self.wanted, place as usize, want)
+    }
+}
+
+// Whether the head has so many variables, where it matters.
+fn is_count(count: Option<usize>, variables: usize) -> bool
+    ensures { result ≡ spec.is_count count variables }
+{
+    match count {
+        None => true,
+        Some(count) => count == variables,
+    }
+}
+
+// Whether the arguments are the variables that they are wanted to be.
+#[tactic(auto, using(crate::proofs::Wants::wanted_one_by_one))]
+fn are_wanted(wanted: &[Option<u32>], aliases: &[Option<u32>]) -> bool
+    ensures { result ≡ spec.all_wanted wanted.now aliases.now }
+{
+    for (index, want) in wanted.iter().enumerate() {
+        if !is_wanted(*want, alias_in(aliases, index)) {
+            return false;
+        }
+    }
+    true
+}
+
+// Whether an argument is the variable that it is wanted to be, if it is.
+fn is_wanted(want: Option<u32>, alias: Option<u32>) -> bool
+    ensures { result ≡ spec.is_wanted want alias }
+{
+    match want {
+        None => true,
+        Some(want) => match alias {
+            None => false,
+            Some(alias) => alias == want,
+        },
     }
 }
 
