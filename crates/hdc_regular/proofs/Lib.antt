@@ -3,7 +3,7 @@ pub mod Expanding
 pub mod Groups
 pub mod Components
 pub mod Walking
-pub mod Judging
+pub mod Fitting
 pub mod PartMirror
 pub mod BuiltTypes
 pub mod ChosenUses

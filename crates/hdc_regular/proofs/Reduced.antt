@@ -15,7 +15,7 @@ use Rattle.hdc_regular.proofs.Expanding.{EachExact}
 use Rattle.hdc_regular.proofs.Groups.{UsesOf, of_each_types_in, needs_named, needs_expanded, AreSolved, UsesType}
 use Rattle.hdc_regular.proofs.Components.{own_reaches, reaches_own}
 use Rattle.hdc_regular.proofs.Walking.{each_itself, order_of_parameters, parameters_of_order}
-use Rattle.hdc_regular.proofs.Judging.{known_of, own_group, together, own_of_together, AreFitting, Unordered, found_unordered, unordered_found}
+use Rattle.hdc_regular.proofs.Fitting.{known_of, own_group, together, own_of_together, AreFitting, Unordered, found_unordered, unordered_found}
 use Rattle.hdc_regular.proofs.Meanings.{full_solved}
 
 -- two declarations of one kind, which are data types with as many parameters

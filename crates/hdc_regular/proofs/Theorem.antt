@@ -18,7 +18,7 @@ use Rattle.hdc_regular.specs.Building.{outline_at}
 use Rattle.hdc_regular.specs.Built.{built_by}
 use Rattle.hdc_regular.specs.Model.{all_wrong}
 use Rattle.hdc_regular.proofs.BuiltTypes.{IsOutline}
-use Rattle.hdc_regular.proofs.Judging.{AreFitting, all_fitting}
+use Rattle.hdc_regular.proofs.Fitting.{AreFitting, all_fitting}
 use Rattle.hdc_regular.proofs.Groups.{UsesOf}
 use Rattle.hdc_regular.proofs.Ranks.{AreRanked, rank, rank_falls, rank_bounded, sound_apart, never_reaches}
 use Rattle.hdc_regular.proofs.Reduced.{AreReduced, are_solved, found_irregular, all_found}

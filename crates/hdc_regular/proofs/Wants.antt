@@ -1,8 +1,8 @@
 -- What is wanted of arguments, one after another.
-use Rattle.std.proofs.Common.{◌&&◌, ◌≡◌, ℕ, zero, suc, ◌+◌, ◌<◌, ◌≤◌, List, [], ◌∷◌, ◌++◌, Option, Some, None, length, get_or, drop, refl, sym, ap, ◌∙◌, arith, drop-cons, add-one}
-use Rattle.std.proofs.Math.ListN.{set}
+use Rattle.std.proofs.Common.{true, false, Bool, ◌-◌, ◌≢◌, ◌&&◌, ◌≡◌, ℕ, zero, suc, ◌+◌, ◌<◌, ◌≤◌, List, [], ◌∷◌, ◌++◌, Option, Some, None, length, get_or, drop, refl, sym, ap, ◌∙◌, arith, drop-cons, add-one}
+use Rattle.std.proofs.Math.ListN.{set, drop_of_length-le}
 use Rattle.hdc_regular.specs.declared.demand.Demand.{Demand}
-use Rattle.hdc_regular.specs.Walk.{one_of}
+use Rattle.hdc_regular.specs.Walk.{one_of, is_variable, in_order}
 use Rattle.hdc_regular.specs.Demands.{behind, is_wanted, all_wanted, want_kept, want_set, with_alias, with_order, with_optional, with_wants}
 
 pub want_behind : (ws : List (Option ℕ)) (j i : ℕ) → length ws ≤ j → want_set (ws ++ None ∷ []) j i ≡ want_set ws j i
@@ -66,3 +66,31 @@ next_wanted ws vs i w lt e =
     ∙ ap (λ z. is_wanted w (one_of vs i) && all_wanted (drop z ws) (drop z vs)) (sym (add-one i))
 
 pub ruleset wanted_one_by_one = (next_wanted)
+
+-- ---- variables in order, one after another
+
+pub next_in_order : (vs : List (Option ℕ)) (i : ℕ) → i < length vs → in_order i (length vs - i) (drop i vs) ≡ (is_variable i (one_of vs i) && in_order (i + 1) (length vs - (i + 1)) (drop (i + 1) vs))
+next_in_order vs i lt =
+    let e : length vs - i ≡ suc (length vs - (i + 1)) = omega arith in
+    let f : suc i ≡ i + 1 = omega arith in
+    ap (λ z. in_order i z (drop i vs)) e
+    ∙ ap (in_order i (suc (length vs - (i + 1)))) (drop-cons vs i None lt)
+    ∙ ap (λ z. is_variable i (one_of vs i) && in_order z (length vs - (i + 1)) (drop z vs)) f
+
+other_count : (i k : ℕ) (vs : List (Option ℕ)) → (length vs ≡ k → ⊥) → in_order i k vs ≡ false
+other_count i zero [] h = absurd (h refl)
+other_count i zero (v ∷ vs) h = refl
+other_count i (suc k) [] h = refl
+other_count i (suc k) (v ∷ vs) h = ap (λ z. is_variable i v && z) (other_count (suc i) k vs (λ e. h (ap (λ z. suc z) e))) ∙ none (is_variable i v)
+  where
+    none : (b : Bool) → (b && false) ≡ false
+    none true = refl
+    none false = refl
+
+pub not_so_many : (k : ℕ) (vs : List (Option ℕ)) → length vs ≢ k → in_order 0 k vs ≡ false
+not_so_many k vs h = other_count 0 k vs h
+
+pub none_in_order : (vs : List (Option ℕ)) (i : ℕ) → length vs ≤ i → in_order i (length vs - i) (drop i vs) ≡ true
+none_in_order vs i ge = let e : length vs - i ≡ 0 = omega arith in ap (λ z. in_order i z (drop i vs)) e ∙ ap (in_order i 0) (drop_of_length-le vs ge)
+
+pub ruleset order_one_by_one = (next_in_order, not_so_many, none_in_order)

@@ -15,3 +15,4 @@ pub mod Outlines
 pub mod Demands
 pub mod Order
 pub mod Judged
+pub mod Judging

@@ -5,6 +5,7 @@ mod bodies;
 mod building;
 mod contents;
 mod demand;
+mod judging;
 mod laws;
 mod names;
 mod outline;
