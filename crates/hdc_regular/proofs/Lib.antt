@@ -25,3 +25,4 @@ pub mod GroupOrder
 pub mod TextOrder
 pub mod Sound
 pub mod Wants
+pub mod UsesFound

@@ -1,9 +1,9 @@
 -- What a part in memory holds, one equation for each kind.
-use Rattle.std.proofs.Common.{◌≡◌, ℕ, List, [], ◌∷◌, ◌++◌, map, refl, sym, ◌∙◌, ap}
+use Rattle.std.proofs.Common.{◌<◌, length, get_or, arith, ◌≡◌, ℕ, List, [], ◌∷◌, ◌++◌, map, refl, sym, ◌∙◌, ap}
 use Rattle.hdc_base.specs.declared.place.At.{At}
 use Rattle.hdc_regular.specs.declared.part.Part.{Part, Part-F, fold-roll-Part}
 use Rattle.hdc_regular.specs.declared.part.Part.TheVariants as v_part
-use Rattle.hdc_regular.specs.Resolved.{Resolved, use_of, other, Parts, no_part, next_part}
+use Rattle.hdc_regular.specs.Resolved.{Resolved, use_of, other, Parts, no_part, next_part, part_at}
 use Rattle.hdc_regular.specs.PartMirror.{all_parts, part_step, part_of, parts_of, joined}
 
 parts_each : (ts : List Part) → all_parts (map part_of ts) ≡ parts_of ts
@@ -37,3 +37,14 @@ pub pushed_part : (ts : List Part) (t : Part) (us : Parts) → joined (parts_of 
 pushed_part ts t us = ap (λ z. joined z us) (one_more_part ts t) ∙ joined_behind (parts_of ts) (next_part (part_of t) no_part) us
 
 pub ruleset parts_in_order = (pushed_part, joined_nothing, joined_behind, one_more_part)
+
+-- the first part
+pub first_part : (ts : List Part) (t : Part) → 0 < length ts → part_at 0 (parts_of ts) ≡ part_of (get_or ts 0 t)
+first_part [] t h = absurd (omega (arith, h))
+first_part (u ∷ ts) t h = refl
+
+pub no_first_part : (ts : List Part) → length ts ≡ 0 → part_at 0 (parts_of ts) ≡ other no_part
+no_first_part [] h = refl
+no_first_part (u ∷ ts) h = absurd (omega (arith, h))
+
+pub ruleset first_parts = (first_part, no_first_part)

@@ -9,6 +9,7 @@ mod judging;
 mod laws;
 mod names;
 mod outline;
+mod outlining;
 mod part;
 mod sounds;
 mod standing;
