@@ -6,6 +6,7 @@ use Rattle.hdc_graph.specs.Needs.{Needs, Reaches, IsClosed, IsNumbering, AreCycl
 use Rattle.hdc_written.specs.declared.breach.Breach.{Breach}
 use Rattle.hdc_written.specs.Breaches.{IsOneOf}
 use Rattle.hdc_synonyms.specs.Synonyms.{synonym_needs}
+use Rattle.hdc_regular.specs.Laws.{AreRanked}
 use Rattle.hdc_regular.specs.declared.contents.Usage.{Usage}
 use Rattle.hdc_regular.specs.declared.demand.Demand.{Demand}
 use Rattle.hdc_regular.specs.declared.outline.Outline.{Outline}
@@ -26,7 +27,6 @@ use Rattle.hdc_regular.proofs.BuiltTypes.{IsOutline}
 use Rattle.hdc_regular.proofs.Demanded.{demand_judged}
 use Rattle.hdc_regular.proofs.Ordering.{AreNamed, all_done}
 use Rattle.hdc_regular.proofs.OutlinesInOrder.{all_right}
-use Rattle.hdc_regular.proofs.Ranks.{AreRanked}
 use Rattle.hdc_regular.proofs.Reduced.{AreReduced, SameKind}
 use Rattle.hdc_regular.proofs.Whole.{size_built, all_reduced}
 use Rattle.hdc_regular.proofs.Theorem.{apart_before, apart, found_is, is_found}

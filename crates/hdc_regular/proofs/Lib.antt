@@ -26,3 +26,4 @@ pub mod TextOrder
 pub mod Sound
 pub mod Wants
 pub mod UsesFound
+pub mod AllFound

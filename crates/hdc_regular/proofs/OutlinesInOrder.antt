@@ -4,6 +4,7 @@ use Rattle.std.proofs.Math.ListN.{set}
 use Rattle.hdc_tree.specs.declared.program.Top.{Top}
 use Rattle.hdc_graph.specs.Needs.{Needs, Reaches}
 use Rattle.hdc_synonyms.specs.Synonyms.{synonym_needs}
+use Rattle.hdc_regular.specs.Laws.{AreRanked}
 use Rattle.hdc_regular.specs.declared.outline.Outline.{Outline}
 use Rattle.hdc_regular.specs.Resolved.{EachHas, Declaration, declaration_at}
 use Rattle.hdc_regular.specs.Expansion.{synonyms_of, full_meaning}
@@ -15,7 +16,6 @@ use Rattle.hdc_regular.specs.Outlines.{outline_of, outlines_by}
 use Rattle.hdc_regular.specs.Order.{IsOrder, AllBelow}
 use Rattle.hdc_regular.proofs.Groups.{UsesOf, each_types_in_have, needs_named}
 use Rattle.hdc_regular.proofs.BuiltTypes.{IsOutline}
-use Rattle.hdc_regular.proofs.Ranks.{AreRanked}
 use Rattle.hdc_regular.proofs.Whole.{outline_right}
 use Rattle.hdc_regular.proofs.Ordering.{same_or_not, BeforeOrIn, shifted}
 

@@ -5,7 +5,7 @@ use Rattle.std.proofs.lemmas.Bool.{cases_lt}
 use Rattle.hdc_tree.specs.declared.program.Synonym.{Synonym}
 use Rattle.hdc_tree.specs.declared.program.Top.{Top}
 use Rattle.hdc_tree.specs.declared.program.Top.TheVariants as top
-use Rattle.hdc_graph.specs.Needs.{Nodes, Needs, Reaches, one, further, IsClosed, AreMutual, IsNumbering, NeedsComeFirst, AreCyclic}
+use Rattle.hdc_graph.specs.Needs.{Nodes, Needs, Reaches, one, further, AreMutual, AreCyclic}
 use Rattle.hdc_written.specs.declared.breach.Breach.{Breach}
 use Rattle.hdc_written.specs.Scopes.{Binding, standing_for}
 use Rattle.hdc_written.specs.TypeMirror.{type_exp_of}
@@ -13,6 +13,7 @@ use Rattle.hdc_rules.specs.Known.{Counted}
 use Rattle.hdc_rules.specs.Bindings.{typed_breaches}
 use Rattle.hdc_synonyms.specs.Synonyms.{top_needs, each_top_needs, declared_types, synonym_needs}
 use Rattle.hdc_synonyms.proofs.Adding.{size_each_top_needs}
+use Rattle.hdc_regular.specs.Laws.{AreRanked}
 use Rattle.hdc_regular.specs.declared.standing.Standing.{Standing}
 use Rattle.hdc_regular.specs.declared.standing.Standing.TheVariants as standing
 use Rattle.hdc_regular.specs.Resolved.{Has, Declaration, neither, declaration_at, is_synonym, meaning_of}
@@ -29,13 +30,6 @@ use Rattle.hdc_regular.proofs.NamedTypes.{IsNumber, of_two, stands_at, resolved_
 two_ways : {g : Nodes} {a b c : ℕ} → Reaches g a b → Reaches g b c → Reaches g a c
 two_ways (one a b n) r = further a b _ n r
 two_ways (further a b c n s) r = further a b _ n (two_ways s r)
-
--- what is known of the graph of the synonyms of a text
-pub record AreRanked (g : Nodes) (numbers : List ℕ) : Type 0 where
-  pub numbering : IsNumbering g numbers
-  pub first : NeedsComeFirst g numbers
-  pub below : (a : ℕ) → a < length g → get_or numbers a 0 < length g
-  pub closed : IsClosed g
 
 number_falls : (g : Nodes) (numbers : List ℕ) → AreRanked g numbers → (a b : ℕ) → Needs g a b → (Reaches g a a → ⊥) → get_or numbers b 0 < get_or numbers a 0
 number_falls g numbers h a b need never = by (cases_lt (get_or numbers b 0) (get_or numbers a 0))

@@ -7,13 +7,14 @@ use Rattle.hdc_graph.specs.Needs.{Needs, Reaches}
 use Rattle.hdc_graph.specs.Groups.{AreGroups}
 use Rattle.hdc_synonyms.specs.Synonyms.{declared_types, synonym_needs}
 use Rattle.hdc_synonyms.proofs.Adding.{size_each_top_needs}
+use Rattle.hdc_regular.specs.Laws.{AreRanked}
 use Rattle.hdc_regular.specs.Resolved.{Has, Declaration, declaration_at, meaning_of}
 use Rattle.hdc_regular.specs.Expansion.{synonyms_of}
 use Rattle.hdc_regular.specs.Named.{body_of, named_needs, NamesSynonym}
 use Rattle.hdc_regular.specs.Irregular.{declarations_by}
 use Rattle.hdc_regular.specs.Order.{IsOrder, AllBelow, group_order}
 use Rattle.hdc_regular.proofs.Groups.{UsesOf, of_each_types_in, needs_named}
-use Rattle.hdc_regular.proofs.Ranks.{AreRanked, needs_before, needs_text, sound_before, sound_text, in_text}
+use Rattle.hdc_regular.proofs.Ranks.{needs_before, needs_text, sound_before, sound_text, in_text}
 use Rattle.hdc_regular.proofs.Reduced.{of_meaning}
 use Rattle.hdc_regular.proofs.GroupOrder.{both_orders, order_behind_more, groups_order, groups_complete, groups_within, all_below, has_two, has_left, has_right}
 

@@ -7,6 +7,7 @@ use Rattle.hdc_written.specs.declared.breach.Breach.{Breach}
 use Rattle.hdc_written.specs.Breaches.{IsOneOf}
 use Rattle.hdc_rules.specs.Known.{Counted, prelude_known, program_known}
 use Rattle.hdc_synonyms.specs.Synonyms.{synonym_needs}
+use Rattle.hdc_regular.specs.Laws.{AreRanked}
 use Rattle.hdc_regular.specs.declared.outline.Outline.{Outline}
 use Rattle.hdc_regular.specs.Resolved.{Has, Declaration, declaration_at, meaning_of}
 use Rattle.hdc_regular.specs.Expansion.{synonyms_of, full_meaning, IsIrregularUse}
@@ -20,7 +21,7 @@ use Rattle.hdc_regular.specs.Model.{all_wrong}
 use Rattle.hdc_regular.proofs.BuiltTypes.{IsOutline}
 use Rattle.hdc_regular.proofs.Fitting.{AreFitting, all_fitting}
 use Rattle.hdc_regular.proofs.Groups.{UsesOf}
-use Rattle.hdc_regular.proofs.Ranks.{AreRanked, rank, rank_falls, rank_bounded, sound_apart, never_reaches}
+use Rattle.hdc_regular.proofs.Ranks.{rank, rank_falls, rank_bounded, sound_apart, never_reaches}
 use Rattle.hdc_regular.proofs.Reduced.{AreReduced, are_solved, found_irregular, all_found}
 use Rattle.hdc_regular.proofs.Whole.{all_reduced}
 

@@ -4,6 +4,7 @@ use Rattle.std.proofs.lemmas.List.{get_or_append_left, get_or-append-add}
 use Rattle.std.proofs.lemmas.Bool.{cases_lt}
 use Rattle.hdc_base.specs.declared.place.At.{At}
 use Rattle.hdc_rules.specs.Types.{count_types}
+use Rattle.hdc_regular.specs.Laws.{AreRanked}
 use Rattle.hdc_regular.specs.Outlines.{outline_of}
 use Rattle.hdc_regular.specs.Walk.{alias_of}
 use Rattle.hdc_regular.specs.Building.{is_held}
@@ -31,7 +32,7 @@ use Rattle.hdc_regular.proofs.Expanding.{EachExact, alias_expanded, holds_of, ha
 use Rattle.hdc_regular.proofs.Groups.{UsesOf}
 use Rattle.hdc_regular.proofs.BuiltTypes.{IsOutline, IsKnown, AreKnown, EachKnown, built_same, each_built_same, built_exact, each_built_exact, built_within, each_built_within}
 use Rattle.hdc_regular.proofs.NamedTypes.{of_two, stands_at}
-use Rattle.hdc_regular.proofs.Ranks.{AreRanked, what_of, at_before, at_text, rank, rank_falls, rank_bounded}
+use Rattle.hdc_regular.proofs.Ranks.{what_of, at_before, at_text, rank, rank_falls, rank_bounded}
 use Rattle.hdc_regular.proofs.Reduced.{SameKind, AreReduced}
 
 -- ---- one declaration

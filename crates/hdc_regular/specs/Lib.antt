@@ -16,3 +16,4 @@ pub mod Demands
 pub mod Order
 pub mod Judged
 pub mod Judging
+pub mod Laws
