@@ -12,6 +12,7 @@ all_is_found ps ts before cyclic hb hc cb ct rb rt gb gt ab at closed numbers nu
     let nt = apart ps ts before cyclic hb hc cb ct rb rt in
     let ordered = text_ordered ps ts sounds cb ct rb rt nb nt gb gt ab at in
     let within = text_within ps ts sounds cb ct rb rt nb nt gb gt ab at in
-    let complete = text_complete ps ts sounds cb ct rb rt nb nt gb gt ab at in
-    (found_breaks ps ts before cyclic hb hc cb ct rb rt (order_of ps gb gt) ordered within complete closed numbers numbering b,
-      broken_found ps ts before cyclic hb hc cb ct rb rt (order_of ps gb gt) ordered within complete closed numbers numbering b)
+    let complete = text_complete ps ts sounds cb ct rb rt nb nt gb gt ab at in (
+      found_breaks ps ts before cyclic hb hc cb ct rb rt (order_of ps gb gt) ordered within complete closed numbers numbering b,
+      broken_found ps ts before cyclic hb hc cb ct rb rt (order_of ps gb gt) ordered within complete closed numbers numbering b,
+    )

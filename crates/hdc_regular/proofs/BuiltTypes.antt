@@ -99,7 +99,7 @@ module _ (synonyms : ℕ → Bool) (meanings : ℕ → Resolved) (outlines : Lis
   synonym_same n at bs rs None holds is a all e =
       ap (λ z. used z (meanings n) n at (each_expanded synonyms meanings (held_from holds 0 bs))) is
       ∙ placed_same at (each_expanded synonyms meanings (held_from holds 0 bs)) (each_expanded synonyms meanings bs) (meanings n)
-        (λ j h. part_expanded synonyms meanings j (held_from holds 0 bs) ∙ ap (expanded synonyms meanings) (part_of_held holds 0 j bs (subst (λ z. is_held holds z ≡ true) (the j) (all j h))) ∙ sym (part_expanded synonyms meanings j bs))
+      (λ j h. part_expanded synonyms meanings j (held_from holds 0 bs) ∙ ap (expanded synonyms meanings) (part_of_held holds 0 j bs (subst (λ z. is_held holds z ≡ true) (the j) (all j h))) ∙ sym (part_expanded synonyms meanings j bs))
       ∙ ap (λ z. placed at z (meanings n)) e
     where
       the : (j : ℕ) → j ≡ 0 + j
@@ -169,6 +169,7 @@ module _ (synonyms : ℕ → Bool) (meanings : ℕ → Resolved) (outlines : Lis
     where
       the : (j : ℕ) → j ≡ 0 + j
       the j = omega arith
+
       by : (j : ℕ) (b : Bool) → is_held holds j ≡ b → (part_at j (held_from holds 0 ts) ≡ other no_part) ⊎ Has (meanings n) (parameter j)
       by j true e = inr (held j e)
       by j false e = inl (part_not_held holds 0 j ts (subst (λ z. is_held holds z ≡ false) (the j) e))

@@ -35,6 +35,7 @@ module _ (ds : List Declaration) (meanings : ℕ → Resolved) (rank : ℕ → �
     where
       r : Reaches (named_needs ds) d x × (synonyms_of ds x ≡ false)
       r = used_reached ds meanings rank h d x u
+
       by : AreMutual (named_needs ds) x d → Reaches (needs_by (synonyms_of ds) meanings ds) x d
       by (inl same) = subst (λ z. Reaches (needs_by (synonyms_of ds) meanings ds) z d) (sym same) (reached_by_fields ds meanings rank h d d is is (subst (Reaches (named_needs ds) d) same r.0))
       by (inr s) = reached_by_fields ds meanings rank h x d r.1 is s.0
@@ -50,8 +51,10 @@ module _ (ds : List Declaration) (meanings : ℕ → Resolved) (rank : ℕ → �
     where
       r : Reaches (named_needs ds) n x × (synonyms_of ds x ≡ false)
       r = used_reached ds meanings rank h n x u
+
       back : AreMutual (named_needs ds) x e → Reaches (named_needs ds) n e
       back (inl eq) = subst (Reaches (named_needs ds) n) eq r.0
       back (inr s) = reaches_through ds meanings rank h r.0 s.0
+
       by : AreMutual (named_needs ds) x e → AreTogether n e
       by m = (numbering.agree n e (closed e n need) (needing_below (named_needs ds) e n need)).1 (inr (back m, one e n need))

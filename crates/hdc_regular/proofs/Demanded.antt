@@ -148,6 +148,7 @@ met_want j i d k vs = around (fits_want (one_of d.wanted j) i) d.possible (is_co
         first false true true w = refl
         first false true false w = refl
         first false false c w = refl
+
         second : (x p c a : Bool) → (x && (p && (c && a))) ≡ (p && (c && (x && a)))
         second true p c a = refl
         second false true true a = refl
@@ -275,6 +276,7 @@ module _ (synonyms : ℕ → Bool) (demands : List Demand) where
 
     mutual
       unfolding each_fits
+
       nothing_in : (k : ℕ) (vs : List (Option ℕ)) (t : Resolved) → is_nothing (wrong by_demands own k (one_of vs) t) ≡ each_fits k vs (uses_in t)
       nothing_in k vs (parameter i) = refl
       nothing_in k vs (use_of n at ts) =

@@ -120,6 +120,7 @@ module _ (synonyms : ℕ → Bool) (meanings : ℕ → Resolved) where
       not_placed (parameter j) k e = k
       not_placed (use_of m a us) k e = cc
       not_placed (other us) k e = cc
+
       by : (b : Bool) → UseGives b n at ts (parameter i) → ⊥
       by true (r, h, k, e) = not_placed r k e
       by false e = cc

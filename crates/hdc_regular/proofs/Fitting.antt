@@ -45,18 +45,22 @@ module _ (known : Tables) (meanings : ℕ → Resolved) (own : ℕ → Bool) whe
     by_use n at us true is i o f = by ((fitting.each_fits n at us i is o).misfit k (each_followed u (each_alias_of us)) f)
       where
         by : AnyUnordered (Has (meanings n)) k (one_of (each_followed u (each_alias_of us))) → Unordered (EachHas (each_expanded known.synonyms meanings ts)) k u at
-        by (c, (m, ws, h, p, g)) =
-            (m, each_placed at (each_expanded known.synonyms meanings us) ws,
-              each_of_source known.synonyms meanings ts m at (each_placed at (each_expanded known.synonyms meanings us) ws) exact
-                (n, at, us, i, subst (λ z. UseOfType known.synonyms meanings z n at us m at (each_placed at (each_expanded known.synonyms meanings us) ws)) (sym is) (c, ws, h, refl, refl)),
-              p,
-              ap (in_order 0 k) (aliases_through at us ws (each_exact_within known.synonyms meanings ts n at us exact i)) ∙ g)
-    by_use n at us false is i o f =
-        (n, each_expanded known.synonyms meanings us,
-          each_of_source known.synonyms meanings ts n at (each_expanded known.synonyms meanings us) exact
-            (n, at, us, i, subst (λ z. UseOfType known.synonyms meanings z n at us n at (each_expanded known.synonyms meanings us)) (sym is) (refl, refl, refl)),
-          o,
-          ap (λ z. in_order 0 k (each_followed u z)) (each_alias_expanded known.synonyms meanings us (each_exact_within known.synonyms meanings ts n at us exact i)) ∙ f)
+        by (c, (m, ws, h, p, g)) = (
+          m,
+          each_placed at (each_expanded known.synonyms meanings us) ws,
+          each_of_source known.synonyms meanings ts m at (each_placed at (each_expanded known.synonyms meanings us) ws) exact
+              (n, at, us, i, subst (λ z. UseOfType known.synonyms meanings z n at us m at (each_placed at (each_expanded known.synonyms meanings us) ws)) (sym is) (c, ws, h, refl, refl)),
+          p,
+          ap (in_order 0 k) (aliases_through at us ws (each_exact_within known.synonyms meanings ts n at us exact i)) ∙ g,
+        )
+    by_use n at us false is i o f = (
+      n,
+      each_expanded known.synonyms meanings us,
+      each_of_source known.synonyms meanings ts n at (each_expanded known.synonyms meanings us) exact
+          (n, at, us, i, subst (λ z. UseOfType known.synonyms meanings z n at us n at (each_expanded known.synonyms meanings us)) (sym is) (refl, refl, refl)),
+      o,
+      ap (λ z. in_order 0 k (each_followed u z)) (each_alias_expanded known.synonyms meanings us (each_exact_within known.synonyms meanings ts n at us exact i)) ∙ f,
+    )
 
     -- what is found is a use that is not in order
     pub found_unordered : (b : Breach) → IsOneOf b (each_wrong known own k u ts) → (c : At) × Unordered (EachHas (each_expanded known.synonyms meanings ts)) k u c × (b ≡ breach 10 c)
@@ -72,13 +76,14 @@ module _ (known : Tables) (meanings : ℕ → Resolved) (own : ℕ → Bool) whe
         let x = each_exact_within known.synonyms meanings ts n at us exact i in
         let p = fitting.apart n at us i is m d ws h o in
         let same : each_followed u (each_alias_of vs) ≡ each_followed (one_of (each_followed u (each_alias_of us))) (each_alias_of ws)
-              = ap (λ z. each_followed u (each_alias_of z)) (sym f) ∙ aliases_through at us ws x in
+        = ap (λ z. each_followed u (each_alias_of z)) (sym f) ∙ aliases_through at us ws x in
         (p, (fitting.each_fits n at us i is p).unfit k (each_followed u (each_alias_of us)) (d, (m, ws, h, o, ap (in_order 0 k) (sym same) ∙ g)), e)
     by_source m c vs o g n at us false is i (d, e, f) =
-        let x = each_exact_within known.synonyms meanings ts n at us exact i in
-        (subst (λ z. own z ≡ true) (sym d) o,
+        let x = each_exact_within known.synonyms meanings ts n at us exact i in (
+          subst (λ z. own z ≡ true) (sym d) o,
           ap (λ z. in_order 0 k (each_followed u z)) (sym (each_alias_expanded known.synonyms meanings us x)) ∙ ap (λ z. in_order 0 k (each_followed u (each_alias_of z))) f ∙ g,
-          e)
+          e,
+        )
 
     -- each use that is not in order is found
     pub unordered_found : (c : At) → Unordered (EachHas (each_expanded known.synonyms meanings ts)) k u c → IsOneOf (breach 10 c) (each_wrong known own k u ts)
@@ -145,11 +150,12 @@ module _ (ds : List Declaration) (meanings : ℕ → Resolved) (rank : ℕ → �
               where
                 of_found : (c : At) × Unordered known_of meanings (own_group n) (EachHas (each_expanded (synonyms_of ds) meanings (body_of (declaration_at ds n)))) k (one_of vs) c × (b ≡ breach 10 c) → AnyUnordered known_of meanings (own_group n) (Has (meanings n)) k (one_of vs)
                 of_found (c, (m, us, j, o, g), f) = (c, (m, us, used_in_meaning ds meanings rank h n m c us is j, o, g))
+
         unfit_of : (k : ℕ) (vs : List (Option ℕ)) → AnyUnordered known_of meanings (own_group n) (Has (meanings n)) k (one_of vs) → fits n k vs ≡ false
         unfit_of k vs (c, (m, us, j, o, g)) =
             judged n is k vs
             ∙ not_nothing (each_wrong known_of (own_group n) k (one_of vs) (body_of (declaration_at ds n))) (breach 10 c)
-              (unordered_found known_of meanings (own_group n) (body_of (declaration_at ds n)) (h.exact n) fitting k (one_of vs) c (m, us, meaning_used ds meanings rank h n m c us is j, o, g))
+            (unordered_found known_of meanings (own_group n) (body_of (declaration_at ds n)) (h.exact n) fitting k (one_of vs) c (m, us, meaning_used ds meanings rank h n m c us is j, o, g))
 
     fitting_below : (f n : ℕ) → rank n < f → synonyms_of ds n ≡ true → IsFitting known_of meanings (own_group n) n
     fitting_below zero n lt is = absurd (omega (arith, lt))

@@ -102,7 +102,7 @@ module _ (ps ts : List Top) (cyclic_before cyclic : List Bool) (are_before : Are
   outlined : (n : ℕ) → synonyms_of ds n ≡ true → IsOutline (outline_at outlines n) (full_meaning ds n)
   outlined n is =
       all_right ps ts sounds before text ranked_before ranked never_before never_there order (λ x. ⊥) (repeat_of no_outline size) (λ x d so. absurd d) ordered
-        (subst (λ z. AllBelow z order) (sym (size_repeat no_outline size)) within) n (inr (complete n is)) is
+      (subst (λ z. AllBelow z order) (sym (size_repeat no_outline size)) within) n (inr (complete n is)) is
 
   reduced : AreReduced ds es (full_meaning ds)
   reduced = all_reduced ps ts sounds before text ranked_before ranked never_before never_there outlines outlined
@@ -132,8 +132,8 @@ module _ (ps ts : List Top) (cyclic_before cyclic : List Bool) (are_before : Are
     demand_is : (n : ℕ) → synonyms_of es n ≡ true → demand_at demands n ≡ demanded (own n) (synonyms_of es) demands (uses_of_synonym (declaration_at es n)) no_demand
     demand_is n is =
         all_done own (synonyms_of es) (λ m. uses_of_synonym (declaration_at es m)) (NamesSynonym ds) are_named order (λ x. ⊥) (repeat_of no_demand (length es))
-          (record { demand = λ x d. absurd d; closed = λ x b d i. absurd d }) ordered
-          (subst (λ z. AllBelow z order) (sym (size_repeat no_demand (length es) ∙ size_es)) within) n (inr (complete n (also n is)))
+        (record { demand = λ x d. absurd d; closed = λ x b d i. absurd d }) ordered
+        (subst (λ z. AllBelow z order) (sym (size_repeat no_demand (length es) ∙ size_es)) within) n (inr (complete n (also n is)))
 
     judged : (n : ℕ) → synonyms_of es n ≡ true → (k : ℕ) (vs : List (Option ℕ)) → met (demand_at demands n) k vs ≡ is_nothing (each_wrong (tables_of es demands) (own n) k (one_of vs) (body_of (declaration_at es n)))
     judged n is k vs =

@@ -102,15 +102,18 @@ module _ (g : Nodes) (groups : List (List ℕ)) (are : AreGroups g groups) (Name
     where
       inside : i < length g
       inside = (((are.each k lt).whole i i c).0 c).0
+
       itself : (j : ℕ) → Needs g i j → Contains (group_at groups k) j → ⊥
       itself j need d = mutual_never (((are.each k lt).whole i j c).0 d)
         where
           mutual_never : (j < length g) × AreMutual g i j → ⊥
           mutual_never (less, inl e) = never i b inside name (subst (Reaches g i) (sym e) (one i j need))
           mutual_never (less, inr r) = never i b inside name (ways_through r.0 r.1)
+
       by_need : (j : ℕ) → base + j ≡ b → Needs g i j → Contains (group_at groups k) j ⊎ ((l : ℕ) × (l < k) × Contains (group_at groups l) j) → InBefore k b
       by_need j e need (inl d) = absurd (itself j need d)
       by_need j e need (inr (l, less, d)) = inr (l, less, j, e, d)
+
       by : Base b ⊎ ((j : ℕ) × (base + j ≡ b) × Needs g i j) → InBefore k b
       by (inl h) = inl h
       by (inr (j, e, need)) = by_need j e need (are.needs k lt i j c need)
@@ -125,23 +128,27 @@ module _ (g : Nodes) (groups : List (List ℕ)) (are : AreGroups g groups) (Name
   from_done done [] e = tt
   from_done done (ns ∷ rest) e =
       both_orders Names (InBefore (length done)) (shifted_by base ns) (group_order base rest)
-        (order_of_all Names (InBefore (length done)) (shifted_by base ns) (λ n b h i. here n b (has_shifted base ns n h) i))
-        (order_behind_more Names (InBefore (length (done ++ ns ∷ []))) (λ x. InBefore (length done) x ⊎ Has (shifted_by base ns) x) (group_order base rest) (λ x h. there x h)
-          (from_done (done ++ ns ∷ []) rest (e ∙ sym (append_assoc done (ns ∷ []) rest))))
+      (order_of_all Names (InBefore (length done)) (shifted_by base ns) (λ n b h i. here n b (has_shifted base ns n h) i))
+      (order_behind_more Names (InBefore (length (done ++ ns ∷ []))) (λ x. InBefore (length done) x ⊎ Has (shifted_by base ns) x) (group_order base rest) (λ x h. there x h)
+      (from_done (done ++ ns ∷ []) rest (e ∙ sym (append_assoc done (ns ∷ []) rest))))
     where
       same : group_at groups (length done) ≡ ns
       same = at_seam done rest ns e
+
       here : (n b : ℕ) → (i : ℕ) × (base + i ≡ n) × Has ns i → Names n b → InBefore (length done) b
       here n b (i, f, h) name = of_group (length done) (seam_below done rest ns e) i b (subst (λ z. Contains z i) (sym same) (contained_has ns i h)) (subst (λ z. Names z b) (sym f) name)
+
       last_group : (x l j : ℕ) → (l < length done) ⊎ (l ≡ length done) → base + j ≡ x → Contains (group_at groups l) j → InBefore (length done) x ⊎ Has (shifted_by base ns) x
       last_group x l j (inl less) f c = inl (inr (l, less, j, f, c))
       last_group x l j (inr is) f c = inr (subst (Has (shifted_by base ns)) f (shifted_has base ns j (has_contained ns j (subst (λ z. Contains z j) (ap (group_at groups) is ∙ same) c))))
+
       before_or_last : (l : ℕ) → l < length (done ++ ns ∷ []) → (l < length done) ⊎ (l ≡ length done)
       before_or_last l lt = by (cases_lt l (length done))
         where
           by : (l < length done) ⊎ (length done ≤ l) → (l < length done) ⊎ (l ≡ length done)
           by (inl less) = inl less
           by (inr ge) = inr (let size = length-append done (ns ∷ []) in omega (arith, size, lt, ge))
+
       there : (x : ℕ) → InBefore (length (done ++ ns ∷ [])) x → InBefore (length done) x ⊎ Has (shifted_by base ns) x
       there x (inl h) = inl (inl h)
       there x (inr (l, less, j, f, c)) = last_group x l j (before_or_last l less) f c

@@ -28,6 +28,7 @@ in_either n m ns h = by (Contains-append_cases (m ∷ []) ns n h)
     first : (k : ℕ) → k < 1 → get_or (m ∷ []) k n ≡ n → m ≡ n
     first zero lt e = e
     first (suc k) lt e = absurd (omega (arith, lt))
+
     by : Contains (m ∷ []) n ⊎ Contains ns n → (m ≡ n) ⊎ Contains ns n
     by (inl (k, lt, e)) = inl (first k lt e)
     by (inr g) = inr g
@@ -134,6 +135,7 @@ module _ (ds : List Declaration) (meanings : ℕ → Resolved) (rank : ℕ → �
       by_use : (b : Bool) (m : ℕ) (at : At) (ts : Parts) → synonyms_of ds m ≡ b → Needs (named_needs ds) n m → UseOfType (synonyms_of ds) meanings b m at ts x a us → IsReached n x
       by_use true m at ts is need (c, vs, k, e, f) = let r = below m need is (c, vs, meaning_used m x c vs is k) in (further n m x need r.0, r.1)
       by_use false m at ts is need (e, f, g) = (subst (Reaches (named_needs ds) n) e (one n m need), subst (λ z. synonyms_of ds z ≡ false) e is)
+
       by : Source (synonyms_of ds) meanings (EachHas (body_of (declaration_at ds n))) x a us → IsReached n x
       by (m, at, ts, k, u) = by_use (synonyms_of ds m) m at ts refl (named n m at ts k) u
 
@@ -164,7 +166,7 @@ module _ (ds : List Declaration) (meanings : ℕ → Resolved) (rank : ℕ → �
   used_needed a b is (c, us, i) =
       subst (λ z. Contains z b) (sym (needs_expanded (synonyms_of ds) meanings ds a))
       (each_types_in_have (each_expanded (synonyms_of ds) meanings (fields_of (declaration_at ds a))) b c us
-        (subst (λ z. EachHas (each_expanded (synonyms_of ds) meanings z) (use_of b c us)) (data_body (declaration_at ds a) is) i))
+      (subst (λ z. EachHas (each_expanded (synonyms_of ds) meanings z) (use_of b c us)) (data_body (declaration_at ds a) is) i))
 
   pub reaches_through : {g : Nodes} {a b c : ℕ} → Reaches g a b → Reaches g b c → Reaches g a c
   reaches_through (one a b n) r = further a b _ n r
@@ -180,16 +182,20 @@ module _ (ds : List Declaration) (meanings : ℕ → Resolved) (rank : ℕ → �
   FromUsed a m = (x : ℕ) × UsesType a x × ((x ≡ m) ⊎ Reaches fields_need x m)
 
   use_named : (a b : ℕ) → UsesOf (EachHas (body_of (declaration_at ds a))) b → synonyms_of ds b ≡ false → UsesType a b
-  use_named a b (at, ts, i) is =
-      (at, each_expanded (synonyms_of ds) meanings ts,
-        each_of_source (synonyms_of ds) meanings (body_of (declaration_at ds a)) b at (each_expanded (synonyms_of ds) meanings ts) (h.exact a)
-        (b, at, ts, i, subst (λ z. UseOfType (synonyms_of ds) meanings z b at ts b at (each_expanded (synonyms_of ds) meanings ts)) (sym is) (refl, refl, refl)))
+  use_named a b (at, ts, i) is = (
+    at,
+    each_expanded (synonyms_of ds) meanings ts,
+    each_of_source (synonyms_of ds) meanings (body_of (declaration_at ds a)) b at (each_expanded (synonyms_of ds) meanings ts) (h.exact a)
+        (b, at, ts, i, subst (λ z. UseOfType (synonyms_of ds) meanings z b at ts b at (each_expanded (synonyms_of ds) meanings ts)) (sym is) (refl, refl, refl)),
+  )
 
   use_by_synonym : (a b x : ℕ) → UsesOf (EachHas (body_of (declaration_at ds a))) b → synonyms_of ds b ≡ true → UsesType b x → UsesType a x
-  use_by_synonym a b x (at, ts, i) is (c, ws, k) =
-      (at, each_placed at (each_expanded (synonyms_of ds) meanings ts) ws,
-        each_of_source (synonyms_of ds) meanings (body_of (declaration_at ds a)) x at (each_placed at (each_expanded (synonyms_of ds) meanings ts) ws) (h.exact a)
-        (b, at, ts, i, subst (λ z. UseOfType (synonyms_of ds) meanings z b at ts x at (each_placed at (each_expanded (synonyms_of ds) meanings ts) ws)) (sym is) (c, ws, used_in_meaning b x c ws is k, refl, refl)))
+  use_by_synonym a b x (at, ts, i) is (c, ws, k) = (
+    at,
+    each_placed at (each_expanded (synonyms_of ds) meanings ts) ws,
+    each_of_source (synonyms_of ds) meanings (body_of (declaration_at ds a)) x at (each_placed at (each_expanded (synonyms_of ds) meanings ts) ws) (h.exact a)
+        (b, at, ts, i, subst (λ z. UseOfType (synonyms_of ds) meanings z b at ts x at (each_placed at (each_expanded (synonyms_of ds) meanings ts) ws)) (sym is) (c, ws, used_in_meaning b x c ws is k, refl, refl)),
+  )
 
   of_named : (a b : ℕ) → Needs (named_needs ds) a b → UsesOf (EachHas (body_of (declaration_at ds a))) b
   of_named a b need = of_each_types_in (body_of (declaration_at ds a)) b (subst (λ z. Contains z b) (needs_named ds a) need)

@@ -16,7 +16,7 @@ module _ (synonyms : ℕ → Bool) (M N : ℕ → Resolved) where
     expanded_agree (parameter i) h = refl
     expanded_agree (use_of n at ts) h =
         used_agree (synonyms n) n at (each_expanded synonyms M ts) (each_expanded synonyms N ts)
-          (each_expanded_agree ts (λ m u is. h m (u.0, u.1, inr u.2) is)) (λ is. h n (at, ts, inl refl) is)
+        (each_expanded_agree ts (λ m u is. h m (u.0, u.1, inr u.2) is)) (λ is. h n (at, ts, inl refl) is)
     expanded_agree (other ts) h = ap (λ z. other z) (each_expanded_agree ts (λ m u is. h m (u.0, u.1, inr u.2) is))
 
     pub each_expanded_agree : (ts : Parts) → ((n : ℕ) → UsesOf (EachHas ts) n → synonyms n ≡ true → M n ≡ N n) → each_expanded synonyms M ts ≡ each_expanded synonyms N ts
@@ -32,7 +32,7 @@ module _ (ds : List Declaration) (rank : ℕ → ℕ)
   once_more zero n is lt = absurd (omega (arith, lt))
   once_more (suc f) n is lt =
       expanded_agree (synonyms_of ds) (expanded_meaning ds f) (expanded_meaning ds (suc f)) (meaning_of (declaration_at ds n))
-        (λ m u so. once_more f m so (let less : rank m < rank n = falls n m is u so in omega (arith, less, lt)))
+      (λ m u so. once_more f m so (let less : rank m < rank n = falls n m is u so in omega (arith, less, lt)))
 
   pub full_solved : (n : ℕ) → synonyms_of ds n ≡ true → rank n < length ds → full_meaning ds n ≡ expanded (synonyms_of ds) (full_meaning ds) (meaning_of (declaration_at ds n))
   full_solved n is lt = once_more (length ds) n is lt

@@ -94,4 +94,4 @@ module _ (own : ℕ → ℕ → Bool) (synonyms : ℕ → Bool) (uses : ℕ → 
     all_done [] Done ds h o below n (inr i) = absurd i
     all_done (m ∷ ns) Done ds h o below n b =
         all_done ns (λ x. Done x ⊎ (m ≡ x)) (set ds m (demanded (own m) synonyms ds (uses m) no_demand)) (next_done Done ds h m below.0 o.0) o.1
-          (below_still ds m (demanded (own m) synonyms ds (uses m) no_demand) ns below.1) n (shifted Done m ns n b)
+        (below_still ds m (demanded (own m) synonyms ds (uses m) no_demand) ns below.1) n (shifted Done m ns n b)

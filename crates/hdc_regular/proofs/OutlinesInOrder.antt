@@ -41,8 +41,9 @@ module _ (ps ts : List Top) (sounds : List Bool) (before text : List ℕ)
       here e =
           let is_n : synonyms_of ds n ≡ true = subst (λ z. synonyms_of ds z ≡ true) e is in
           subst (λ z. IsOutline (outline_at (set os n (outline_of (body_of (declaration_at (built_by os ps ts sounds) n)))) z) (full_meaning ds z)) (sym e)
-            (subst (λ z. IsOutline z (full_meaning ds n)) (sym (get_or-set_same os n (outline_of (body_of (declaration_at (built_by os ps ts sounds) n))) no_outline lt))
-              (outline_right ps ts sounds before text ranked_before ranked apart_before apart os n is_n (λ b u so. right b (below b (is_n, used_named n b u, so)) so)))
+          (subst (λ z. IsOutline z (full_meaning ds n)) (sym (get_or-set_same os n (outline_of (body_of (declaration_at (built_by os ps ts sounds) n))) no_outline lt))
+          (outline_right ps ts sounds before text ranked_before ranked apart_before apart os n is_n (λ b u so. right b (below b (is_n, used_named n b u, so)) so)))
+
       by : (x ≡ n) ⊎ (x ≡ n → ⊥) → Done x ⊎ (n ≡ x) → IsOutline (outline_at (set os n (outline_of (body_of (declaration_at (built_by os ps ts sounds) n)))) x) (full_meaning ds x)
       by (inl e) k = here e
       by (inr ne) (inr e) = absurd (ne (sym e))
@@ -60,4 +61,4 @@ module _ (ps ts : List Top) (sounds : List Bool) (before text : List ℕ)
   all_right [] Done os right o below n (inr i) is = absurd i
   all_right (m ∷ ns) Done os right o below n b is =
       all_right ns (λ x. Done x ⊎ (m ≡ x)) (set os m (outline_of (body_of (declaration_at (built_by os ps ts sounds) m)))) (next_right Done os m right o.0 below.0) o.1
-        (below_still os m (outline_of (body_of (declaration_at (built_by os ps ts sounds) m))) ns below.1) n (shifted Done m ns n b) is
+      (below_still os m (outline_of (body_of (declaration_at (built_by os ps ts sounds) m))) ns below.1) n (shifted Done m ns n b) is

@@ -37,6 +37,7 @@ number_falls g numbers h a b need never = by (cases_lt (get_or numbers b 0) (get
     mutual_never : AreMutual g a b → ⊥
     mutual_never (inl e) = never (subst (Reaches g a) (sym e) (one a b need))
     mutual_never (inr r) = never (two_ways r.0 r.1)
+
     by : (get_or numbers b 0 < get_or numbers a 0) ⊎ (get_or numbers a 0 ≤ get_or numbers b 0) → get_or numbers b 0 < get_or numbers a 0
     by (inl lt) = lt
     by (inr ge) =
@@ -112,6 +113,7 @@ never_reaches g cyclic h i e r = by (cases_lt i (length g))
     first_below : {a b : ℕ} → Reaches g a b → a < length g
     first_below (one a b n) = needing_below g a b n
     first_below (further a b c n s) = needing_below g a b n
+
     by : (i < length g) ⊎ (length g ≤ i) → ⊥
     by (inl lt) = not_true (get_or cyclic i false) ((h.reaches i lt).1 r) e
     by (inr ge) = let lt = first_below r in omega (arith, lt, ge)
@@ -180,7 +182,7 @@ module _ (ps ts : List Top) (sounds : List Bool) (before text : List ℕ)
       let h = synonym_top (names_before ps sounds) (get_or sounds a false) (get_or ps a top.Empty) (subst (λ z. is_synonym z ≡ true) same is) in
       let v : UsesOf (Has (resolved (names_before ps sounds) (params_from 0 h.synonym_of.params) (type_exp_of h.synonym_of.meaning))) b = subst (λ z. UsesOf (Has z) b) (ap meaning_of same ∙ h.means) u in
       subst (λ z. Contains z b) (sym (needs_each (declared_types 0 ps) ps a ∙ ap (top_needs (declared_types 0 ps)) h.is_top))
-        (resolved_needs (names_before ps sounds) (params_from 0 h.synonym_of.params) (declared_types 0 ps) b b (link_before b) (type_exp_of h.synonym_of.meaning) v)
+      (resolved_needs (names_before ps sounds) (params_from 0 h.synonym_of.params) (declared_types 0 ps) b b (link_before b) (type_exp_of h.synonym_of.meaning) v)
 
   pub needs_text : (i b j : ℕ) → length ps + j ≡ b → synonyms_of all (length ps + i) ≡ true → UsesOf (Has (meaning_of (declaration_at all (length ps + i)))) b → Needs (synonym_needs ts) i j
   needs_text i b j at is u =
@@ -188,7 +190,7 @@ module _ (ps ts : List Top) (sounds : List Bool) (before text : List ℕ)
       let h = synonym_top (names_of ps ts sounds) (get_or sounds (length ps + i) false) (get_or ts i top.Empty) (subst (λ z. is_synonym z ≡ true) same is) in
       let v : UsesOf (Has (resolved (names_of ps ts sounds) (params_from 0 h.synonym_of.params) (type_exp_of h.synonym_of.meaning))) b = subst (λ z. UsesOf (Has z) b) (ap meaning_of same ∙ h.means) u in
       subst (λ z. Contains z j) (sym (needs_each (declared_types 0 ts) ts i ∙ ap (top_needs (declared_types 0 ts)) h.is_top))
-        (resolved_needs (names_of ps ts sounds) (params_from 0 h.synonym_of.params) (declared_types 0 ts) b j (link_text b j at) (type_exp_of h.synonym_of.meaning) v)
+      (resolved_needs (names_of ps ts sounds) (params_from 0 h.synonym_of.params) (declared_types 0 ts) b j (link_text b j at) (type_exp_of h.synonym_of.meaning) v)
 
   -- a synonym of the prelude names none of the text
   pub stays_before : (a b : ℕ) → a < length ps → synonyms_of all a ≡ true → UsesOf (Has (meaning_of (declaration_at all a))) b → b < length ps
@@ -241,6 +243,7 @@ module _ (ps ts : List Top) (sounds : List Bool) (before text : List ℕ)
       none ge =
           let h = synonym_top (names_of ps ts sounds) (get_or sounds (length ps + i) false) (get_or ts i top.Empty) (subst (λ z. is_synonym z ≡ true) (at_text i) is) in
           let e : top.Empty ≡ top.Synonym h.synonym_of = sym (get_or_past ts i top.Empty ge) ∙ h.is_top in cc
+
       by : (i < length ts) ⊎ (length ts ≤ i) → i < length ts
       by (inl lt) = lt
       by (inr ge) = absurd (none ge)

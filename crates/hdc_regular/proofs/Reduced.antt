@@ -89,7 +89,7 @@ module _ (ds es : List Declaration) (rank : ℕ → ℕ) (reduced : AreReduced d
     solved = λ n is. subst (λ s. M n ≡ expanded s M (meaning_of (declaration_at es n))) (sym same_synonyms) (solved_by n (also n is) is);
     exact = λ n. subst (λ s. EachExact s M (body_of (declaration_at es n))) (sym same_synonyms) (reduced.exact n);
     falls = λ a b is need so.
-      falls a b (also a is) (of_meaning (declaration_at ds a) b (also a is) (reduced.within a b (of_each_types_in (body_of (declaration_at es a)) b (subst (λ z. Contains z b) (needs_named es a) need)))) (also b so);
+        falls a b (also a is) (of_meaning (declaration_at ds a) b (also a is) (reduced.within a b (of_each_types_in (body_of (declaration_at es a)) b (subst (λ z. Contains z b) (needs_named es a) need)))) (also b so);
   }
 
   -- data types need the same
@@ -156,14 +156,15 @@ module _ (ds es : List Declaration) (rank : ℕ → ℕ) (reduced : AreReduced d
     of_declared : (n : ℕ) (d : Declaration) (b : Breach) → declaration_at es n ≡ d → IsOneOf b (declared_wrong known numbers n d) → IsIrregularUse ds n b.at × (b.rule ≡ 10)
     of_declared n (data_type k ts) b is h =
         by (found_unordered known M (own n) ts
-          (subst (λ z. EachExact (synonyms_of es) M (body_of z)) is (are_solved.exact n))
-          (subst (λ z. AreFitting known M (own n) (body_of z)) is (fitting n)) k (λ j. Some j) b h)
+        (subst (λ z. EachExact (synonyms_of es) M (body_of z)) is (are_solved.exact n))
+        (subst (λ z. AreFitting known M (own n) (body_of z)) is (fitting n)) k (λ j. Some j) b h)
       where
         by : (c : At) × Unordered known M (own n) (EachHas (each_expanded (synonyms_of es) M ts)) k (λ j. Some j) c × (b ≡ breach 10 c) → IsIrregularUse ds n b.at × (b.rule ≡ 10)
-        by (c, u, e) =
-            (subst (λ z. IsIrregularUse ds n z.at) (sym e)
+        by (c, u, e) = (
+          subst (λ z. IsIrregularUse ds n z.at) (sym e)
               (of_data n k ts (declaration_at ds n) is (subst (SameKind (declaration_at ds n)) is (reduced.kinds n)) refl (subst (λ z. each_expanded (synonyms_of ds) M (body_of z) ≡ each_expanded (synonyms_of ds) M (body_of (declaration_at ds n))) is (reduced.same n)) c u),
-              ap (λ z. z.rule) e)
+          ap (λ z. z.rule) e,
+        )
     of_declared n (synonym t) b is h = absurd h
     of_declared n neither b is h = absurd h
 
@@ -174,18 +175,22 @@ module _ (ds es : List Declaration) (rank : ℕ → ℕ) (reduced : AreReduced d
         let there : EachHas (each_expanded (synonyms_of es) M ts) (use_of m c vs) = subst (λ z. EachHas z (use_of m c vs)) (sym (ap (λ s. each_expanded s M ts) same_synonyms ∙ same)) h in
         let used : UsesType es M rank are_solved n m = (c, vs, subst (λ z. EachHas (each_expanded (synonyms_of es) M (body_of z)) (use_of m c vs)) (sym ise) there) in
         unordered_found known M (own n) ts
-          (subst (λ z. EachExact (synonyms_of es) M (body_of z)) ise (are_solved.exact n))
-          (subst (λ z. AreFitting known M (own n) (body_of z)) ise (fitting n)) k (λ j. Some j) c
-          (m, vs, there, own_of_together es M rank are_solved closed numbers numbering fits m n (reaches_own es M rank are_solved closed numbers numbering n m used (reached_here r)),
-            never (in_order 0 k (each_followed (λ j. Some j) (each_alias_of vs)))
-              (λ e. d (parameters_of_order 0 k vs (ap (in_order 0 k) (sym (each_itself (each_alias_of vs))) ∙ e) ∙ ap (parameters_from 0) (sym kind))))
+        (subst (λ z. EachExact (synonyms_of es) M (body_of z)) ise (are_solved.exact n))
+        (subst (λ z. AreFitting known M (own n) (body_of z)) ise (fitting n)) k (λ j. Some j) c (
+          m,
+          vs,
+          there,
+          own_of_together es M rank are_solved closed numbers numbering fits m n (reaches_own es M rank are_solved closed numbers numbering n m used (reached_here r)),
+          never (in_order 0 k (each_followed (λ j. Some j) (each_alias_of vs)))
+              (λ e. d (parameters_of_order 0 k vs (ap (in_order 0 k) (sym (each_itself (each_alias_of vs))) ∙ e) ∙ ap (parameters_from 0) (sym kind))),
+        )
     declared_has n (synonym t) c ise l us is kind same m vs h r d = absurd kind
     declared_has n neither c ise l us is kind same m vs h r d = absurd kind
 
     pub irregular_found : (n : ℕ) (c : At) → IsIrregularUse ds n c → IsOneOf (breach 10 c) (declared_wrong known numbers n (declaration_at es n))
     irregular_found n c u =
         declared_has n (declaration_at es n) c refl u.count u.fields u.is_data (subst (λ z. SameKind z (declaration_at es n)) u.is_data (reduced.kinds n))
-          (subst (λ z. each_expanded (synonyms_of ds) M (body_of (declaration_at es n)) ≡ each_expanded (synonyms_of ds) M (body_of z)) u.is_data (reduced.same n)) u.what u.arguments u.uses u.reaches u.differ
+        (subst (λ z. each_expanded (synonyms_of ds) M (body_of (declaration_at es n)) ≡ each_expanded (synonyms_of ds) M (body_of z)) u.is_data (reduced.same n)) u.what u.arguments u.uses u.reaches u.differ
 
     -- ---- in all declarations from one on
 
@@ -214,5 +219,5 @@ module _ (ds es : List Declaration) (rank : ℕ → ℕ) (reduced : AreReduced d
     pub all_found : (from n i : ℕ) (c : At) → from + i ≡ n → IsIrregularUse ds n c → IsOneOf (breach 10 c) (all_wrong known numbers from (drop from es))
     all_found from n i c e u =
         tail_has from (drop from es) i (breach 10 c)
-          (subst (λ z. IsOneOf (breach 10 c) (declared_wrong known numbers (from + i) z)) (sym (get_or-drop from es i neither))
-            (subst (λ z. IsOneOf (breach 10 c) (declared_wrong known numbers z (declaration_at es z))) (sym e) (irregular_found n c u)))
+        (subst (λ z. IsOneOf (breach 10 c) (declared_wrong known numbers (from + i) z)) (sym (get_or-drop from es i neither))
+        (subst (λ z. IsOneOf (breach 10 c) (declared_wrong known numbers z (declaration_at es z))) (sym e) (irregular_found n c u)))

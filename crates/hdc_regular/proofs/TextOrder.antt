@@ -76,9 +76,9 @@ module _ (ps ts : List Top) (sounds : List Bool) (before text : List ℕ)
   pub text_ordered : IsOrder (NamesSynonym ds) (λ x. ⊥) both
   text_ordered =
       both_orders (NamesSynonym ds) (λ x. ⊥) first second
-        (groups_order (synonym_needs ps) groups_before are_before (NamesSynonym ds) (λ x. ⊥) 0 needs_first never_first)
-        (order_behind_more (NamesSynonym ds) (In first) (λ x. ⊥ ⊎ In first x) second (λ x h. inr h)
-          (groups_order (synonym_needs ts) groups are (NamesSynonym ds) (In first) (length ps) needs_second never_second))
+      (groups_order (synonym_needs ps) groups_before are_before (NamesSynonym ds) (λ x. ⊥) 0 needs_first never_first)
+      (order_behind_more (NamesSynonym ds) (In first) (λ x. ⊥ ⊎ In first x) second (λ x h. inr h)
+      (groups_order (synonym_needs ts) groups are (NamesSynonym ds) (In first) (length ps) needs_second never_second))
 
   -- all are numbers of declarations
   pub text_within : AllBelow (length ps + length ts) both

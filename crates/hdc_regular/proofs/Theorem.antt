@@ -44,8 +44,8 @@ same_flags (x ∷ xs) (y ∷ ys) e h =
 one_cyclic : (g : Nodes) (xs ys : List Bool) → AreCyclic g xs → AreCyclic g ys → xs ≡ ys
 one_cyclic g xs ys h k =
     same_flags xs ys (h.each ∙ sym k.each)
-      (λ i lt. let there : i < length g = subst (λ z. i < z) h.each lt in
-        same_flag (get_or xs i false) (get_or ys i false) (λ t. (k.reaches i there).1 ((h.reaches i there).0 t)) (λ t. (h.reaches i there).1 ((k.reaches i there).0 t)))
+    (λ i lt. let there : i < length g = subst (λ z. i < z) h.each lt in
+    same_flag (get_or xs i false) (get_or ys i false) (λ t. (k.reaches i there).1 ((h.reaches i there).0 t)) (λ t. (h.reaches i there).1 ((k.reaches i there).0 t)))
 
 size_each_sound : (types : Counted) (cyclic : List Bool) (n : ℕ) (ts : List Top) → length (each_sound types cyclic n ts) ≡ length ts
 size_each_sound types cyclic n [] = refl
@@ -62,15 +62,15 @@ module _ (ps ts : List Top) (cyclic_before cyclic : List Bool) (are_before : Are
   apart_before i lt e r =
       let less : i < length (each_sound (prelude_known ps).types cyclic_before 0 ps) = subst (λ z. i < z) (sym (size_each_sound (prelude_known ps).types cyclic_before 0 ps)) lt in
       let here : get_or (each_sound (prelude_known ps).types cyclic_before 0 ps) i false ≡ true
-            = sym (get_or_append_left (each_sound (prelude_known ps).types cyclic_before 0 ps) (each_sound (program_known ps ts).types cyclic 0 ts) false i less) ∙ e in
+      = sym (get_or_append_left (each_sound (prelude_known ps).types cyclic_before 0 ps) (each_sound (program_known ps ts).types cyclic 0 ts) false i less) ∙ e in
       let same : 0 + i ≡ i = omega arith in
       never_reaches (synonym_needs ps) cyclic_before are_before i (subst (λ z. get_or cyclic_before z false ≡ false) same (sound_apart (prelude_known ps).types cyclic_before 0 ps i here)) r
 
   pub apart : (i : ℕ) → get_or (sounds_of ps ts cyclic_before cyclic) (length ps + i) false ≡ true → Reaches (synonym_needs ts) i i → ⊥
   apart i e r =
       let there : get_or (sounds_of ps ts cyclic_before cyclic) (length ps + i) false ≡ get_or (each_sound (program_known ps ts).types cyclic 0 ts) i false
-            = ap (λ z. get_or (sounds_of ps ts cyclic_before cyclic) (z + i) false) (sym (size_each_sound (prelude_known ps).types cyclic_before 0 ps))
-              ∙ get_or-append-add (each_sound (prelude_known ps).types cyclic_before 0 ps) (each_sound (program_known ps ts).types cyclic 0 ts) i false in
+      = ap (λ z. get_or (sounds_of ps ts cyclic_before cyclic) (z + i) false) (sym (size_each_sound (prelude_known ps).types cyclic_before 0 ps))
+      ∙ get_or-append-add (each_sound (prelude_known ps).types cyclic_before 0 ps) (each_sound (program_known ps ts).types cyclic 0 ts) i false in
       let same : 0 + i ≡ i = omega arith in
       never_reaches (synonym_needs ts) cyclic are_cyclic i (subst (λ z. get_or cyclic z false ≡ false) same (sound_apart (program_known ps ts).types cyclic 0 ts i (sym there ∙ e))) r
 
@@ -122,10 +122,10 @@ module _ (ps ts : List Top) (cyclic_before cyclic : List Bool) (are_before : Are
         pub is_found : (b : Breach) → IsIrregular ps ts b → IsOneOf b (all_wrong known_es numbers (length ps) (drop (length ps) es))
         is_found b h =
             let same : sounds_of ps ts h.cyclic_before h.cyclic ≡ sounds_of ps ts cyclic_before cyclic
-                  = ap (λ z. sounds_of ps ts z h.cyclic) (one_cyclic (synonym_needs ps) h.cyclic_before cyclic_before h.are_before are_before)
-                    ∙ ap (λ z. sounds_of ps ts cyclic_before z) (one_cyclic (synonym_needs ts) h.cyclic cyclic h.are_cyclic are_cyclic) in
+            = ap (λ z. sounds_of ps ts z h.cyclic) (one_cyclic (synonym_needs ps) h.cyclic_before cyclic_before h.are_before are_before)
+            ∙ ap (λ z. sounds_of ps ts cyclic_before z) (one_cyclic (synonym_needs ts) h.cyclic cyclic h.are_cyclic are_cyclic) in
             let u : IsIrregularUse whole h.number b.at = subst (λ z. IsIrregularUse (declarations_by ps ts z) h.number b.at) same h.irregular in
             let le = h.of_text in
             let e : length ps + (h.number - length ps) ≡ h.number = omega (arith, le) in
             subst (λ z. IsOneOf (record { rule = z; at = b.at }) (all_wrong known_es numbers (length ps) (drop (length ps) es))) (sym h.rule)
-              (all_found whole es ranks reduced falls bounded closed numbers numbering fits fitting (length ps) h.number (h.number - length ps) b.at e u)
+            (all_found whole es ranks reduced falls bounded closed numbers numbering fits fitting (length ps) h.number (h.number - length ps) b.at e u)

@@ -124,11 +124,12 @@ module _ (known : Tables) (own : ℕ → Bool) (k : ℕ) (u : ℕ → Option ℕ
       → (own n ≡ true) × (use_fits known (known.synonyms n) n k (each_followed u (each_alias_of ts)) ≡ false) × (at ≡ a)
   same_use n m at a ts us e o f =
       let d : n ≡ m = cc in
-      let g : ts ≡ us = cc in
-      (subst (λ z. own z ≡ true) (sym d) o,
+      let g : ts ≡ us = cc in (
+        subst (λ z. own z ≡ true) (sym d) o,
         subst (λ z. use_fits known (known.synonyms z) z k (each_followed u (each_alias_of ts)) ≡ false) (sym d)
-        (subst (λ z. use_fits known (known.synonyms m) m k (each_followed u (each_alias_of z)) ≡ false) (sym g) f),
-        cc)
+            (subst (λ z. use_fits known (known.synonyms m) m k (each_followed u (each_alias_of z)) ≡ false) (sym g) f),
+        cc,
+      )
 
   here_wrong : (n m : ℕ) (at a : At) (ts us : Parts) → use_of n at ts ≡ use_of m a us → own m ≡ true → use_fits known (known.synonyms m) m k (each_followed u (each_alias_of us)) ≡ false
       → IsOneOf (breach 10 a) (wrong known own k u (use_of n at ts))
@@ -136,7 +137,7 @@ module _ (known : Tables) (own : ℕ → Bool) (k : ℕ) (u : ℕ → Option ℕ
       let r = same_use n m at a ts us e o f in
       one_of_left (breach 10 a) (wrong_use (own n) (use_fits known (known.synonyms n) n k (each_followed u (each_alias_of ts))) at) (each_wrong known own k u ts)
       (subst (λ z. IsOneOf (breach 10 z) (wrong_use (own n) (use_fits known (known.synonyms n) n k (each_followed u (each_alias_of ts))) at)) r.2
-        (wrong_use_has (own n) (use_fits known (known.synonyms n) n k (each_followed u (each_alias_of ts))) at r.0 r.1))
+      (wrong_use_has (own n) (use_fits known (known.synonyms n) n k (each_followed u (each_alias_of ts))) at r.0 r.1))
 
   mutual
     pub wrong_has : (t : Resolved) (n : ℕ) (at : At) (ts : Parts) → Has t (use_of n at ts) → own n ≡ true → use_fits known (known.synonyms n) n k (each_followed u (each_alias_of ts)) ≡ false → IsOneOf (breach 10 at) (wrong known own k u t)

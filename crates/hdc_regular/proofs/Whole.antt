@@ -78,9 +78,10 @@ module _ (s : ℕ → Bool) (M : ℕ → Resolved) (outlines : List Outline) (na
 
   mutual
     all_known : (params : List (Binding ℕ)) (t : WrittenType) → AreOutlined (Has (resolved names params t)) → AreKnown s M outlines names params t
-    all_known params (type_constructor c ts) r =
-        (use_known params (standing_for c.text names) (count_types ts) c.at (each_resolved names params ts) (agree c.text) r,
-          each_known params ts (arguments_outlined (standing_for c.text names) (count_types ts) c.at (each_resolved names params ts) r))
+    all_known params (type_constructor c ts) r = (
+      use_known params (standing_for c.text names) (count_types ts) c.at (each_resolved names params ts) (agree c.text) r,
+      each_known params ts (arguments_outlined (standing_for c.text names) (count_types ts) c.at (each_resolved names params ts) r),
+    )
     all_known params (type_variable x) r = tt
     all_known params (unit_type a) r = tt
     all_known params (type_in_parentheses a t) r = all_known params t r
@@ -188,8 +189,8 @@ module _ (ps ts : List Top) (sounds : List Bool) (before text : List ℕ)
       let h = stands_at sounds 0 0 ps x w e in
       let at0 : 0 + h.place ≡ h.place = omega arith in
       known_by w (0 + h.place) (declaration_of (names_before ps sounds) (get_or sounds (0 + h.place) false) (get_or ps h.place top.Empty))
-        (subst (λ z. declaration_at ds z ≡ declaration_of (names_before ps sounds) (get_or sounds z false) (get_or ps h.place top.Empty)) (sym at0) (there_before h.place h.within))
-        (standing_kind (names_before ps sounds) (get_or sounds (0 + h.place) false) (0 + h.place) (get_or ps h.place top.Empty) h.names w h.declares)
+      (subst (λ z. declaration_at ds z ≡ declaration_of (names_before ps sounds) (get_or sounds z false) (get_or ps h.place top.Empty)) (sym at0) (there_before h.place h.within))
+      (standing_kind (names_before ps sounds) (get_or sounds (0 + h.place) false) (0 + h.place) (get_or ps h.place top.Empty) h.names w h.declares)
 
   known_in_text : (x : List ℕ) (w : Standing) → standing_for x (names_of ps ts sounds) ≡ Some w → IsNamed (synonyms_of ds) (Some w)
   known_in_text x w e = by (of_two x (each_standing sounds (length ps) ts) (names_before ps sounds) w e)
@@ -199,8 +200,8 @@ module _ (ps ts : List Top) (sounds : List Bool) (before text : List ℕ)
       by (inl f) =
           let h = stands_at sounds (length ps) 0 ts x w f in
           known_by w (length ps + h.place) (declaration_of (names_of ps ts sounds) (get_or sounds (length ps + h.place) false) (get_or ts h.place top.Empty))
-            (there_text h.place)
-            (standing_kind (names_of ps ts sounds) (get_or sounds (length ps + h.place) false) (length ps + h.place) (get_or ts h.place top.Empty) h.names w h.declares)
+          (there_text h.place)
+          (standing_kind (names_of ps ts sounds) (get_or sounds (length ps + h.place) false) (length ps + h.place) (get_or ts h.place top.Empty) h.names w h.declares)
 
   known_before : (x : List ℕ) → IsNamed (synonyms_of ds) (standing_for x (names_before ps sounds))
   known_before x = by (standing_for x (names_before ps sounds)) refl
@@ -241,15 +242,15 @@ module _ (ps ts : List Top) (sounds : List Bool) (before text : List ℕ)
   holds_by : (n : ℕ) → OutlinedAt n → (n < length ps) ⊎ (length ps ≤ n) → Holds (declaration_at ds n) (declaration_at es n)
   holds_by n o (inl lt) =
       let r = top_reduced (synonyms_of ds) (full_meaning ds) outlines (names_before ps sounds) known_before (get_or sounds n false) (get_or ps n top.Empty)
-                (λ b u is. o b (subst (λ z. UsesOf (EachHas (body_of z)) b) (sym (there_before n lt)) u) is) in
+      (λ b u is. o b (subst (λ z. UsesOf (EachHas (body_of z)) b) (sym (there_before n lt)) u) is) in
       subst (λ z. Holds z (declaration_at es n)) (sym (there_before n lt)) (subst (Holds (declaration_of (names_before ps sounds) (get_or sounds n false) (get_or ps n top.Empty))) (sym (built_before n lt)) (r.kind, r.same, r.exact, r.within))
   holds_by n o (inr ge) =
       let i = n - length ps in
       let at : length ps + i ≡ n = omega (arith, ge) in
       let r = top_reduced (synonyms_of ds) (full_meaning ds) outlines (names_of ps ts sounds) known_there (get_or sounds (length ps + i) false) (get_or ts i top.Empty)
-                (λ b u is. o b (subst (λ z. UsesOf (EachHas (body_of (declaration_at ds z))) b) at (subst (λ z. UsesOf (EachHas (body_of z)) b) (sym (there_text i)) u)) is) in
+      (λ b u is. o b (subst (λ z. UsesOf (EachHas (body_of (declaration_at ds z))) b) at (subst (λ z. UsesOf (EachHas (body_of z)) b) (sym (there_text i)) u)) is) in
       subst (λ z. Holds (declaration_at ds z) (declaration_at es z)) at
-        (subst (λ z. Holds z (declaration_at es (length ps + i))) (sym (there_text i)) (subst (Holds (declaration_of (names_of ps ts sounds) (get_or sounds (length ps + i) false) (get_or ts i top.Empty))) (sym (built_text i)) (r.kind, r.same, r.exact, r.within)))
+      (subst (λ z. Holds z (declaration_at es (length ps + i))) (sym (there_text i)) (subst (Holds (declaration_of (names_of ps ts sounds) (get_or sounds (length ps + i) false) (get_or ts i top.Empty))) (sym (built_text i)) (r.kind, r.same, r.exact, r.within)))
 
   -- a declaration that is built expands as it is written
   pub holds_at : (n : ℕ) → OutlinedAt n → Holds (declaration_at ds n) (declaration_at es n)
@@ -272,9 +273,11 @@ module _ (ps ts : List Top) (sounds : List Bool) (before text : List ℕ)
     where
       solved : full_meaning ds n ≡ expanded (synonyms_of ds) (full_meaning ds) (meaning_of (declaration_at ds n))
       solved = full_solved ds (rank ps ts sounds before text ranked_before ranked apart_before apart) (rank_falls ps ts sounds before text ranked_before ranked apart_before apart) n is (rank_bounded ps ts sounds before text ranked_before ranked apart_before apart n is)
+
       of_flag : (t : Resolved) (j : ℕ) → (is_held [] j ≡ true) ⊎ Has t (parameter j) → Has t (parameter j)
       of_flag t j (inl e) = cc
       of_flag t j (inr h) = h
+
       right : (t : Resolved) → full_meaning ds n ≡ expanded (synonyms_of ds) (full_meaning ds) t → EachExact (synonyms_of ds) (full_meaning ds) (next_part t no_part) → IsOutline (outline_of (next_part t no_part)) (full_meaning ds n)
       right t e x = record {
         alias = sym (ap alias_of e ∙ alias_expanded (synonyms_of ds) (full_meaning ds) t x.0);
@@ -286,6 +289,7 @@ module _ (ps ts : List Top) (sounds : List Bool) (before text : List ℕ)
           of_each t j (inl e) = cc
           of_each t j (inr (inl h)) = h
           of_each t j (inr (inr h)) = absurd h
+
       by : (e d : Declaration) → declaration_at ds n ≡ d → Holds d e → is_synonym d ≡ true → IsOutline (outline_of (body_of e)) (full_meaning ds n)
       by (synonym t) (synonym u) ise h so = right t (solved ∙ ap (λ z. expanded (synonyms_of ds) (full_meaning ds) (meaning_of z)) ise ∙ ap (part_at 0) (sym h.1)) h.2
       by (synonym t) (data_type k us) ise h so = cc

@@ -35,7 +35,14 @@ pub(crate) fn build_type(
     }
     let mut parts = Items::new(alloc);
     parts.push(first)?;
-    add_arrow_types(part.rest.as_slice(), alloc, &mut parts, outlines, names, params)?;
+    add_arrow_types(
+        part.rest.as_slice(),
+        alloc,
+        &mut parts,
+        outlines,
+        names,
+        params,
+    )?;
     Ok(Part::Other(parts))
 }
 

@@ -134,9 +134,7 @@ impl Demand {
     pub(crate) fn is_met(&self, count: usize, aliases: &[Option<u32>]) -> bool
         ensures { result ≡ spec.met self.now count aliases.now }
     {
-        self.possible
-            && is_count(self.count, count)
-            && are_wanted(self.wanted.as_slice(), aliases)
+        self.possible && is_count(self.count, count) && are_wanted(self.wanted.as_slice(), aliases)
     }
 
     // An argument is this variable.

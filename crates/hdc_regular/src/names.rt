@@ -37,7 +37,12 @@ fn bind_next_standings<'t>(
     while count > 0 {
         count -= 1;
         let number = number_behind(base, count)?;
-        bind_standing(names, flag(sounds, number as usize), number, &tops[count].top)?;
+        bind_standing(
+            names,
+            flag(sounds, number as usize),
+            number,
+            &tops[count].top,
+        )?;
     }
     Ok(())
 }
@@ -67,7 +72,10 @@ fn bind_standing<'t>(
     ensures { OnOk result (names.new ≡ spec.top_standings is_sound number part.now ++ names.old) }
 {
     match part {
-        Top::Data(declared) => names.bind(declared.name.text.as_slice(), Standing::DataType(number)),
+        Top::Data(declared) => names.bind(
+            declared.name.text.as_slice(),
+            Standing::DataType(number),
+        ),
         Top::Synonym(synonym) => {
             let standing = synonym_standing(is_sound, number, synonym.params.len());
             names.bind(synonym.name.text.as_slice(), standing)

@@ -32,11 +32,7 @@ pub fn find_in_prelude(alloc: Global, prelude: &Tree) -> Result<Found, AllocErro
 /// # Errors
 ///
 /// `AllocError` where memory is short.
-pub fn find_in_program(
-    alloc: Global,
-    prelude: &Tree,
-    program: &Tree,
-) -> Result<Found, AllocError>
+pub fn find_in_program(alloc: Global, prelude: &Tree, program: &Tree) -> Result<Found, AllocError>
     ensures { IfOk result (λ found. IsFirst (λ b. IsOneOf b (spec.program_breaches (tops_of prelude.now) (tops_of program.now))) found.breach) }
 {
     let known = known_in_program(alloc, prelude, program)?;

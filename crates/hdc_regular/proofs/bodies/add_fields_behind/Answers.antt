@@ -10,7 +10,7 @@ loop-part-preserved c =
     let lt : c.loop-part.part-index < length c.args.parts.now = omega arith in
     c.loop-part.invariant
     ∙ fields_step c.args.outlines.now c.args.names.now c.args.params.now c.args.parts.now c.loop-part.part-index c.part-item.result c.loop-part.built c.add_atypes.new.built lt c.part-item.is
-      (c.in_ok-add_atypes.ensures ∙ ap (λ xs. joined (parts_of c.loop-part.built) (each_built c.args.outlines.now c.args.names.now c.args.params.now (each_type atype_of xs))) c.as_slice.ensures)
+    (c.in_ok-add_atypes.ensures ∙ ap (λ xs. joined (parts_of c.loop-part.built) (each_built c.args.outlines.now c.args.names.now c.args.params.now (each_type atype_of xs))) c.as_slice.ensures)
 
 pub returns : goal.returns
 returns c =

@@ -32,7 +32,7 @@ add_comma_types-loop-part-preserved t c =
     let lt : c.loop-part.part-index < length c.args.parts.now = omega arith in
     c.loop-part.invariant
     ∙ pushed_step comma_type_of c.args.outlines.now c.args.names.now c.args.params.now c.args.parts.now c.loop-part.part-index c.part-item.result c.in_ok-next_part.next_part c.loop-part.built c.push.new.self c.in_ok-push.ensures.ok lt c.part-item.is
-      (c.in_ok-next_part.ensures ∙ ap (built c.args.outlines.now c.args.names.now c.args.params.now) (sym (comma_type_parts c.part-item.result)))
+    (c.in_ok-next_part.ensures ∙ ap (built c.args.outlines.now c.args.names.now c.args.params.now) (sym (comma_type_parts c.part-item.result)))
 
 pub add_comma_types-returns : goal.add_comma_types-returns
 add_comma_types-returns t c =
@@ -44,7 +44,7 @@ add_arrow_types-loop-part-preserved t c =
     let lt : c.loop-part.part-index < length c.args.parts.now = omega arith in
     c.loop-part.invariant
     ∙ pushed_step arrow_type_of c.args.outlines.now c.args.names.now c.args.params.now c.args.parts.now c.loop-part.part-index c.part-item.result c.in_ok-next_part.next_part c.loop-part.built c.push.new.self c.in_ok-push.ensures.ok lt c.part-item.is
-      (c.in_ok-next_part.ensures ∙ ap (built c.args.outlines.now c.args.names.now c.args.params.now) (sym (arrow_type_parts c.part-item.result)))
+    (c.in_ok-next_part.ensures ∙ ap (built c.args.outlines.now c.args.names.now c.args.params.now) (sym (arrow_type_parts c.part-item.result)))
 
 pub add_arrow_types-returns : goal.add_arrow_types-returns
 add_arrow_types-returns t c =
@@ -62,7 +62,7 @@ add_held_atypes-loop-index-preserved t c =
     let holds = (outline_at c.args.outlines.now c.args.number).holds in
     let flag : c.is_held_at.result ≡ is_held holds (suc c.loop-index.index) = c.is_held_at.ensures ∙ ap (is_held holds) (add-one c.loop-index.index) in
     let step = λ (p : Part) (e : c.if-is_held_at.built ≡ c.loop-index.built ++ p ∷ []) (b : part_of p ≡ held_part (is_held holds (suc c.loop-index.index)) (built c.args.outlines.now c.args.names.now c.args.params.now (atype_of c.index-parts-index.result))).
-      held_step atype_of c.args.outlines.now c.args.names.now c.args.params.now c.args.parts.now c.loop-index.index holds (suc c.loop-index.index) (suc (c.loop-index.index + 1)) c.index-parts-index.result p c.loop-index.built c.if-is_held_at.built (ap (λ z. suc z) (add-one c.loop-index.index)) e lt c.index-parts-index.is b in
+    held_step atype_of c.args.outlines.now c.args.names.now c.args.params.now c.args.parts.now c.loop-index.index holds (suc c.loop-index.index) (suc (c.loop-index.index + 1)) c.index-parts-index.result p c.loop-index.built c.if-is_held_at.built (ap (λ z. suc z) (add-one c.loop-index.index)) e lt c.index-parts-index.is b in
     elim c.if-is_held_at.branch [
       | add_held_atypes-then-is_held_at+in_ok-next_part+in_ok-push w ↦ c.loop-index.invariant ∙ step w.in_ok-next_part.next_part (w.built-is ∙ w.in_ok-push.ensures.ok) (held_true (is_held holds (suc c.loop-index.index)) _ _ (sym flag ∙ w.if-is_held_at.true) w.in_ok-next_part.ensures)
       | add_held_atypes-else-is_held_at+in_ok-push-2 w ↦ c.loop-index.invariant ∙ step _ (w.built-is ∙ w.in_ok-push-2.ensures.ok) (held_false (is_held holds (suc c.loop-index.index)) _ _ (sym flag ∙ w.if-is_held_at.false) (part_other w.new.result ∙ ap (λ z. other (parts_of z)) w.new.ensures))
@@ -80,16 +80,16 @@ build_btype-returns-in_ok-add_held_atypes-in-Holding t c =
     let first = built c.args.outlines.now c.args.names.now c.args.params.now (atype_of c.in-Applied.first) in
     let rest = each_built c.args.outlines.now c.args.names.now c.args.params.now (each_type atype_of c.as_slice-rest.result.now) in
     let parts : parts_of c.add_held_atypes.new.built ≡ next_part (held_part (is_held holds 0) first) (held_from holds 1 rest) =
-      elim c.if-is_held_at.branch [
-        | build_btype-then-is_held_at+in_ok-first_part-in-Holding+in_ok-push-in-Holding w ↦
-            first_and_more w.in_ok-first_part-in-Holding.first_part c.new-parts-in-Holding.result c.if-is_held_at.parts c.add_held_atypes.new.built (held_part (is_held holds 0) first) (held_from holds 1 rest) c.new-parts-in-Holding.ensures
-              (w.parts-is ∙ w.in_ok-push-in-Holding.ensures.ok)
-              (held_true (is_held holds 0) _ _ (sym c.is_held_at.ensures ∙ w.if-is_held_at.true) w.in_ok-first_part-in-Holding.ensures) c.in_ok-add_held_atypes-in-Holding.ensures
-        | build_btype-else-is_held_at+in_ok-push-in-Holding-2 w ↦
-            first_and_more _ c.new-parts-in-Holding.result c.if-is_held_at.parts c.add_held_atypes.new.built (held_part (is_held holds 0) first) (held_from holds 1 rest) c.new-parts-in-Holding.ensures
-              (w.parts-is ∙ w.in_ok-push-in-Holding-2.ensures.ok)
-              (held_false (is_held holds 0) _ _ (sym c.is_held_at.ensures ∙ w.if-is_held_at.false) (part_other w.new.result ∙ ap (λ z. other (parts_of z)) w.new.ensures)) c.in_ok-add_held_atypes-in-Holding.ensures
-      ] in
+    elim c.if-is_held_at.branch [
+      | build_btype-then-is_held_at+in_ok-first_part-in-Holding+in_ok-push-in-Holding w ↦
+          first_and_more w.in_ok-first_part-in-Holding.first_part c.new-parts-in-Holding.result c.if-is_held_at.parts c.add_held_atypes.new.built (held_part (is_held holds 0) first) (held_from holds 1 rest) c.new-parts-in-Holding.ensures
+          (w.parts-is ∙ w.in_ok-push-in-Holding.ensures.ok)
+          (held_true (is_held holds 0) _ _ (sym c.is_held_at.ensures ∙ w.if-is_held_at.true) w.in_ok-first_part-in-Holding.ensures) c.in_ok-add_held_atypes-in-Holding.ensures
+      | build_btype-else-is_held_at+in_ok-push-in-Holding-2 w ↦
+          first_and_more _ c.new-parts-in-Holding.result c.if-is_held_at.parts c.add_held_atypes.new.built (held_part (is_held holds 0) first) (held_from holds 1 rest) c.new-parts-in-Holding.ensures
+          (w.parts-is ∙ w.in_ok-push-in-Holding-2.ensures.ok)
+          (held_false (is_held holds 0) _ _ (sym c.is_held_at.ensures ∙ w.if-is_held_at.false) (part_other w.new.result ∙ ap (λ z. other (parts_of z)) w.new.ensures)) c.in_ok-add_held_atypes-in-Holding.ensures
+    ] in
     part_use c.in-Holding.number c.in-Applied.name.at c.add_held_atypes.new.built
     ∙ ap (use_of c.in-Holding.number c.in-Applied.name.at) parts
     ∙ sym (built_applied c.args.outlines.now c.args.names.now c.args.params.now c.args.part.now c.in-Applied.name c.in-Applied.first c.in-Applied.rest c.as_slice-rest.result.now (choice.Holding c.in-Holding.number) c.in-Applied.is c.as_slice-rest.ensures c.in-Holding.ensures)
@@ -98,7 +98,7 @@ pub build_btype-returns-then-place-eq0 : goal.build_btype-returns-then-place-eq0
 build_btype-returns-then-place-eq0 t c =
     let e = built_applied c.args.outlines.now c.args.names.now c.args.params.now c.args.part.now c.in-Applied.name c.in-Applied.first c.in-Applied.rest c.as_slice-rest.result.now (choice.One c.in-One.place) c.in-Applied.is c.as_slice-rest.ensures c.in-One.ensures in
     let first : part_at c.in-One.place (next_part (built c.args.outlines.now c.args.names.now c.args.params.now (atype_of c.in-Applied.first)) (each_built c.args.outlines.now c.args.names.now c.args.params.now (each_type atype_of c.as_slice-rest.result.now))) ≡ built c.args.outlines.now c.args.names.now c.args.params.now (atype_of c.in-Applied.first)
-          = ap (λ j. part_at j (next_part (built c.args.outlines.now c.args.names.now c.args.params.now (atype_of c.in-Applied.first)) (each_built c.args.outlines.now c.args.names.now c.args.params.now (each_type atype_of c.as_slice-rest.result.now)))) c.if-place-eq0.true in
+    = ap (λ j. part_at j (next_part (built c.args.outlines.now c.args.names.now c.args.params.now (atype_of c.in-Applied.first)) (each_built c.args.outlines.now c.args.names.now c.args.params.now (each_type atype_of c.as_slice-rest.result.now)))) c.if-place-eq0.true in
     subst (λ z. IfOk c.build_atype-then-place-eq0.result (λ b. part_of b ≡ z)) (sym (e ∙ first)) c.build_atype-then-place-eq0.ensures
 
 pub build_btype-returns-else-place-eq0 : goal.build_btype-returns-else-place-eq0
