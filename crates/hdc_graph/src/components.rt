@@ -19,12 +19,13 @@ pub struct Components {
 }
 
 /// The components of a graph. Two nodes are in one component where they are the same, or reach each other.
-/// What a node needs is in a component of no higher number. Memory may be wanting.
+/// What a node needs is in a component of no higher number; there are no more numbers than nodes. Memory may be wanting.
 pub fn find_components(alloc: Global, graph: &Graph) -> Result<Components, AllocError>
     requires { length graph.now ≤ 2 ^ 32 }
     ensures numbering { IfOk result (λ components. IsNumbering graph.now components.numbers) }
     ensures needs_first { IfOk result (λ components. NeedsComeFirst graph.now components.numbers) }
     ensures cyclic { IfOk result (λ components. AreCyclic graph.now components.cyclic) }
+    ensures below { IfOk result (λ components. EachIndex components.numbers (λ node. slice_index components.numbers node < length graph.now)) }
 {
     let numbers = number_nodes(alloc, graph)?;
     let cyclic = find_cyclic(alloc, graph, numbers.as_slice())?;

@@ -35,6 +35,14 @@ impl Graph {
         }
     }
 
+    /// A graph by what each node needs, from 0.
+    pub fn from_needs(needs: Vec<Items<u32>>) -> Graph
+        requires { IsClosed needs.items }
+        ensures { result ≡ needs.items }
+    {
+        Graph { needs }
+    }
+
     /// The number of nodes. Each node that is needed is one of them.
     pub fn len(&self) -> usize
         ensures len { result ≡ length self.now }

@@ -1,6 +1,26 @@
-//! Stub.
+//! Rule 10: data types that are not regular.
+//!
+//! A data type uses a type of its own recursive group with its own variables in order (`specs/Irregular.antt`), where a
+//! synonym that breaks no rule counts as what it means (`specs/Expansion.antt`). `finds_all` says that a search finds the
+//! breaches of the rule, and no others, which expands no synonym: the types of both texts are built with only those
+//! arguments that are held (`specs/Building.antt`), the groups are components of a graph in which synonyms are nodes, and
+//! each synonym asks of its arguments what the uses in its meaning need (`specs/Demands.antt`).
+//!
+//! The functions that build, collect, ask and judge are here, each with its exact result; the passes over all declarations
+//! that join them, and the public search, are not written yet.
 #![tactic(auto)]
 
-mod check;
+mod bodies;
+mod building;
+mod contents;
+mod demand;
+mod judging;
+mod laws;
+mod names;
+mod outline;
+mod outlining;
+mod part;
+mod sounds;
+mod standing;
 
-pub use check::{find_in_prelude, find_in_program};
+pub use laws::finds_all;

@@ -27,9 +27,7 @@ pub(crate) fn known_in_prelude<'t>(
     let mut constructors = Scope::new(alloc);
     bind_built_in_constructors(&mut constructors)?;
     bind_constructors(&mut constructors, prelude)?;
-    let mut types = Scope::new(alloc);
-    bind_built_in_types(&mut types)?;
-    bind_types(&mut types, prelude)?;
+    let types = types_in_prelude(alloc, prelude)?;
     let mut library = Scope::new(alloc);
     bind_values(&mut library, prelude)?;
     Ok(Known {
@@ -37,6 +35,40 @@ pub(crate) fn known_in_prelude<'t>(
         types,
         library,
     })
+}
+
+/// The types that are known in a prelude, with the numbers of their parameters.
+///
+/// # Errors
+///
+/// `AllocError` where memory is short.
+pub fn types_in_prelude<'t>(
+    alloc: Global,
+    prelude: &'t Tree,
+) -> Result<Scope<'t, usize>, AllocError>
+    ensures { IfOk result (λ types. types ≡ (spec.prelude_known (mirror.tops_of prelude.now)).types) }
+{
+    let mut types = Scope::new(alloc);
+    bind_built_in_types(&mut types)?;
+    bind_types(&mut types, prelude)?;
+    Ok(types)
+}
+
+/// The types that are known in a program behind a prelude, with the numbers of their parameters.
+///
+/// # Errors
+///
+/// `AllocError` where memory is short.
+pub fn types_in_program<'t>(
+    alloc: Global,
+    prelude: &'t Tree,
+    program: &'t Tree,
+) -> Result<Scope<'t, usize>, AllocError>
+    ensures { IfOk result (λ types. types ≡ (spec.program_known (mirror.tops_of prelude.now) (mirror.tops_of program.now)).types) }
+{
+    let mut types = types_in_prelude(alloc, prelude)?;
+    bind_types(&mut types, program)?;
+    Ok(types)
 }
 
 /// What is known in a program behind a prelude.

@@ -19,3 +19,5 @@ mod type_variables;
 mod types;
 
 pub use check::{find_in_prelude, find_in_program};
+pub use known::{types_in_prelude, types_in_program};
+pub use tops::note_typed_at;

@@ -265,7 +265,12 @@ fn note_next_typed(
     Ok(())
 }
 
-fn note_typed_at(
+/// What is broken in the types of a top declaration.
+///
+/// # Errors
+///
+/// `AllocError` where memory is short.
+pub fn note_typed_at(
     alloc: Global,
     found: &mut Found,
     types: &Scope<usize>,

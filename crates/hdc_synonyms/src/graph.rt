@@ -13,7 +13,11 @@ use hdc_written::Scope;
 use std::alloc::{AllocError, Global};
 
 /// For each top declaration of a text, the declarations that it needs.
-pub(crate) fn synonym_graph(alloc: Global, tree: &Tree) -> Result<Graph, AllocError>
+///
+/// # Errors
+///
+/// `AllocError` where memory is short.
+pub fn synonym_graph(alloc: Global, tree: &Tree) -> Result<Graph, AllocError>
     ensures needs { IfOk result (λ graph. graph ≡ synonym_needs (mirror.tops_of tree.now)) }
     ensures size { IfOk result (λ graph. length graph ≤ 2 ^ 32) }
 {

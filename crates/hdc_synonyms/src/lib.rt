@@ -15,3 +15,4 @@ mod needs;
 mod tests;
 
 pub use cyclic::find_cyclic_synonyms;
+pub use graph::synonym_graph;
