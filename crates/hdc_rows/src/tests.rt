@@ -3,6 +3,7 @@
 mod chains;
 mod depths;
 mod job;
+mod names;
 mod outside;
 mod rows;
 mod trees;

@@ -4,5 +4,3 @@ pub mod Dues
 pub mod Tokens
 pub mod Texts
 pub mod NoTree
-pub mod Joining
-pub mod OneNames

@@ -1,6 +1,5 @@
 pub mod Layout
 pub mod Prelude
-pub mod Names
 pub mod Stopped
 pub mod Results
 pub mod Parsing
