@@ -3,7 +3,6 @@
 mod chains;
 mod depths;
 mod job;
-mod names;
 mod outside;
 mod rows;
 mod trees;

@@ -32,13 +32,13 @@ use Rattle.hdc_parse.specs.declared.stop.ParseStop.TheVariants as parsing
 use Rattle.hdc_parse.specs.Exact.{IsParsed}
 use Rattle.hdc_parse.proofs.OneAnswer.{parsed_no_syntax, parsed_no_nesting, syntax_once, nesting_once, syntax_no_nesting}
 use Rattle.hdc_parse.proofs.OneSpelling.{one_spelling}
-use Rattle.hdc_names.specs.declared.check.TreesStop.{TreesStop}
-use Rattle.hdc_names.specs.declared.check.TreesStop.TheVariants as checking
+use Rattle.hdc_top.specs.declared.names.NamesStop.{NamesStop}
+use Rattle.hdc_top.specs.declared.names.NamesStop.TheVariants as checking
 use Rattle.hdc_written.specs.Mirror.{tops_of}
-use Rattle.hdc_names.specs.Trees.{IsChecked}
-use Rattle.hdc_names.proofs.OneCheck.{checked_once}
+use Rattle.hdc_top.specs.Names.{AreChecked}
+use Rattle.hdc_top.proofs.OneNames.{answered_once}
 use Rattle.hdc_top.specs.Prelude.{HasTree, IsPrelude, stored, without}
-use Rattle.hdc_top.specs.Stopped.{most_bytes, lexer_stop, parser_stop, trees_stop, refused_at, end_place, HasLayout, HaveTrees, HasTrees, SpellsLaid, SpellsTree, StopsLaid, syntax_at, nesting_at, trees_at, not_built, LacksLayout, lexemes, layout, IsStopped, no_tokens, laid_tokens, IsRefused, NestsTooDeep, HasDeepTree, PassesLimit}
+use Rattle.hdc_top.specs.Stopped.{most_bytes, lexer_stop, parser_stop, names_stop, refused_at, end_place, HasLayout, IsAsked, KeepsRules, SpellsLaid, SpellsTree, StopsLaid, syntax_at, nesting_at, names_at, not_built, LacksLayout, lexemes, layout, IsStopped, no_tokens, laid_tokens, IsRefused, NestsTooDeep, HasDeepTree, PassesLimit}
 use Rattle.hdc_top.specs.Report.{run_text, stop_text}
 use Rattle.hdc_top.specs.Words.{job_of, usage_text}
 use Rattle.hdc_top.specs.Due.{budget, too_long, status_of, stop_status, IsDueFor, long, stopped, ran, IsDue, usage, job, IsTold, IsDueFrom, IsFileText}
@@ -61,16 +61,17 @@ lexer_want (lex.Unclosed at) e = cc
 lexer_want (lex.Tokens at) e = cc
 lexer_want lex.Want e = refl
 
--- a stop of a program's trees is no want of memory
-trees_want : (s : TreesStop) → (s ≡ checking.Want → ⊥) → trees_stop s ≢ stop.Want
-trees_want (checking.Fixity at) told = λ e. cc
-trees_want (checking.Depth at) told = λ e. cc
-trees_want checking.Want told = absurd (told refl)
+-- a stop of a program's names is no want of memory
+asked_want : (s : NamesStop) → (s ≡ checking.Want → ⊥) → names_stop s ≢ stop.Want
+asked_want (checking.Fixity at) told = λ e. cc
+asked_want (checking.Depth at) told = λ e. cc
+asked_want (checking.Name b) told = λ e. cc
+asked_want checking.Want told = absurd (told refl)
 
 laid_want : (laid : List Token) (end : At) (s : Stop) → StopsLaid laid end s → s ≢ stop.Want
 laid_want laid end _ (syntax_at at h) = λ e. cc
 laid_want laid end _ (nesting_at at h) = λ e. cc
-laid_want laid end _ (trees_at whole s parsed h told) = trees_want s told
+laid_want laid end _ (names_at whole s parsed h told) = asked_want s told
 laid_want laid end _ (not_built whole parsed has none) = λ e. cc
 
 unlaid_want : (text : List ℕ) (s : Stop) → LacksLayout text s → s ≢ stop.Want
@@ -204,51 +205,51 @@ prelude_once _ _ (stored tree h) (without none) = absurd (none tree h)
 prelude_once _ _ (without none) (stored other g) = absurd (none other g)
 prelude_once _ _ (without none) (without nothing) = refl
 
--- of a program's chains, sections and depths one thing is said, but for want of memory
-err_want : (s : TreesStop) → (s ≡ checking.Want → ⊥) → ◌≡◌ {A = Result (Unit {0}) TreesStop} (Err s) (Err checking.Want) → ⊥
+-- of a program's chains, depths and names one thing is said, but for want of memory
+err_want : (s : NamesStop) → (s ≡ checking.Want → ⊥) → ◌≡◌ {A = Result (Unit {0}) NamesStop} (Err s) (Err checking.Want) → ⊥
 err_want s told e = told (err_inj s checking.Want e)
   where
-    err_inj : (s t : TreesStop) → ◌≡◌ {A = Result (Unit {0}) TreesStop} (Err s) (Err t) → s ≡ t
+    err_inj : (s t : NamesStop) → ◌≡◌ {A = Result (Unit {0}) NamesStop} (Err s) (Err t) → s ≡ t
     err_inj s t e = cc
 
-trees_once : (whole : program.Tree) (r s : Result (Unit {0}) TreesStop) → HaveTrees whole r → HaveTrees whole s → (r ≡ Err checking.Want → ⊥) → (s ≡ Err checking.Want → ⊥) → r ≡ s
-trees_once whole r s h g n m =
+asked_once : (whole : program.Tree) (r s : Result (Unit {0}) NamesStop) → IsAsked whole r → IsAsked whole s → (r ≡ Err checking.Want → ⊥) → (s ≡ Err checking.Want → ⊥) → r ≡ s
+asked_once whole r s h g n m =
     let same = prelude_once h.prelude g.prelude h.is g.is in
-    checked_once (tops_of g.prelude) (tops_of whole) r s (subst (λ p. IsChecked (tops_of p) (tops_of whole) r) same h.checked) g.checked n m
+    answered_once (tops_of g.prelude) (tops_of whole) r s (subst (λ p. AreChecked (tops_of p) (tops_of whole) r) same h.checked) g.checked n m
 
-trees_stop_once : (whole : program.Tree) (s t : TreesStop) → HaveTrees whole (Err s) → HaveTrees whole (Err t) → (s ≡ checking.Want → ⊥) → (t ≡ checking.Want → ⊥) → s ≡ t
-trees_stop_once whole s t h g n m = err_inj (trees_once whole (Err s) (Err t) h g (err_want s n) (err_want t m))
+names_stop_once : (whole : program.Tree) (s t : NamesStop) → IsAsked whole (Err s) → IsAsked whole (Err t) → (s ≡ checking.Want → ⊥) → (t ≡ checking.Want → ⊥) → s ≡ t
+names_stop_once whole s t h g n m = err_inj (asked_once whole (Err s) (Err t) h g (err_want s n) (err_want t m))
   where
-    err_inj : ◌≡◌ {A = Result (Unit {0}) TreesStop} (Err s) (Err t) → s ≡ t
+    err_inj : ◌≡◌ {A = Result (Unit {0}) NamesStop} (Err s) (Err t) → s ≡ t
     err_inj e = cc
 
-trees_none : (whole : program.Tree) (s : TreesStop) → HaveTrees whole (Err s) → (s ≡ checking.Want → ⊥) → HasTrees whole → ⊥
-trees_none whole s h told all = clash (trees_once whole (Err s) (Ok tt) h all (err_want s told) (λ e. cc))
+asked_none : (whole : program.Tree) (s : NamesStop) → IsAsked whole (Err s) → (s ≡ checking.Want → ⊥) → KeepsRules whole → ⊥
+asked_none whole s h told all = clash (asked_once whole (Err s) (Ok tt) h all (err_want s told) (λ e. cc))
   where
-    clash : ◌≡◌ {A = Result (Unit {0}) TreesStop} (Err s) (Ok tt) → ⊥
+    clash : ◌≡◌ {A = Result (Unit {0}) NamesStop} (Err s) (Ok tt) → ⊥
     clash e = cc
 
 -- the same of the tree that laid-out tokens spell
-trees_too : (laid : List Token) (r : Result (Unit {0}) TreesStop) (whole other : program.Tree) → IsParsed laid whole → IsParsed laid other → HaveTrees whole r → HaveTrees other r
-trees_too laid r whole other parsed again h = subst (λ t. HaveTrees t r) (whole_once laid whole other parsed again) h
+asked_too : (laid : List Token) (r : Result (Unit {0}) NamesStop) (whole other : program.Tree) → IsParsed laid whole → IsParsed laid other → IsAsked whole r → IsAsked other r
+asked_too laid r whole other parsed again h = subst (λ t. IsAsked t r) (whole_once laid whole other parsed again) h
 
 -- laid-out tokens are stopped in one way
 laid_once : (laid : List Token) (end : At) (s t : Stop) → StopsLaid laid end s → StopsLaid laid end t → s ≡ t
 laid_once laid end _ _ (syntax_at a h) (syntax_at b g) = ap (λ at. parser_stop (parsing.Syntax at)) (syntax_once laid end a b h g)
 laid_once laid end _ _ (syntax_at a h) (nesting_at b g) = absurd (syntax_no_nesting laid end a b h g)
-laid_once laid end _ _ (syntax_at a h) (trees_at whole b parsed lacks told) = absurd (parsed_no_syntax laid end a whole parsed h)
+laid_once laid end _ _ (syntax_at a h) (names_at whole b parsed lacks told) = absurd (parsed_no_syntax laid end a whole parsed h)
 laid_once laid end _ _ (syntax_at a h) (not_built whole parsed has none) = absurd (parsed_no_syntax laid end a whole parsed h)
 laid_once laid end _ _ (nesting_at a h) (syntax_at b g) = absurd (syntax_no_nesting laid end b a g h)
 laid_once laid end _ _ (nesting_at a h) (nesting_at b g) = ap (λ at. parser_stop (parsing.Nesting at)) (nesting_once laid end a b h g)
-laid_once laid end _ _ (nesting_at a h) (trees_at whole b parsed lacks told) = absurd (parsed_no_nesting laid end a whole parsed h)
+laid_once laid end _ _ (nesting_at a h) (names_at whole b parsed lacks told) = absurd (parsed_no_nesting laid end a whole parsed h)
 laid_once laid end _ _ (nesting_at a h) (not_built whole parsed has none) = absurd (parsed_no_nesting laid end a whole parsed h)
-laid_once laid end _ _ (trees_at whole a parsed lacks told) (syntax_at b g) = absurd (parsed_no_syntax laid end b whole parsed g)
-laid_once laid end _ _ (trees_at whole a parsed lacks told) (nesting_at b g) = absurd (parsed_no_nesting laid end b whole parsed g)
-laid_once laid end _ _ (trees_at whole a parsed lacks told) (trees_at other b again g known) = ap trees_stop (trees_stop_once other a b (trees_too laid (Err a) whole other parsed again lacks) g told known)
-laid_once laid end _ _ (trees_at whole a parsed lacks told) (not_built other again has none) = absurd (trees_none other a (trees_too laid (Err a) whole other parsed again lacks) told has)
+laid_once laid end _ _ (names_at whole a parsed lacks told) (syntax_at b g) = absurd (parsed_no_syntax laid end b whole parsed g)
+laid_once laid end _ _ (names_at whole a parsed lacks told) (nesting_at b g) = absurd (parsed_no_nesting laid end b whole parsed g)
+laid_once laid end _ _ (names_at whole a parsed lacks told) (names_at other b again g known) = ap names_stop (names_stop_once other a b (asked_too laid (Err a) whole other parsed again lacks) g told known)
+laid_once laid end _ _ (names_at whole a parsed lacks told) (not_built other again has none) = absurd (asked_none other a (asked_too laid (Err a) whole other parsed again lacks) told has)
 laid_once laid end _ _ (not_built whole parsed has none) (syntax_at b g) = absurd (parsed_no_syntax laid end b whole parsed g)
 laid_once laid end _ _ (not_built whole parsed has none) (nesting_at b g) = absurd (parsed_no_nesting laid end b whole parsed g)
-laid_once laid end _ _ (not_built whole parsed has none) (trees_at other b again lacks told) = absurd (trees_none whole b (trees_too laid (Err b) other whole again parsed lacks) told has)
+laid_once laid end _ _ (not_built whole parsed has none) (names_at other b again lacks told) = absurd (asked_none whole b (asked_too laid (Err b) other whole again parsed lacks) told has)
 laid_once laid end _ _ (not_built whole parsed has none) (not_built other again too nothing) = refl
 
 layout_stops_once : (r : Result (List Token) At) (end : At) (s t : Stop) → StopsLayout r end s → StopsLayout r end t → s ≡ t
@@ -290,7 +291,7 @@ unlaid_none text _ laid (layout tokens at h e) g =
 laid_none : (laid : List Token) (end : At) (s : Stop) (tree : Tree) → StopsLaid laid end s → SpellsLaid laid tree → ⊥
 laid_none laid end _ tree (syntax_at at h) p = parsed_no_syntax laid end at p.whole p.parsed h
 laid_none laid end _ tree (nesting_at at h) p = parsed_no_nesting laid end at p.whole p.parsed h
-laid_none laid end _ tree (trees_at whole s parsed lacks told) p = trees_none p.whole s (trees_too laid (Err s) whole p.whole parsed p.parsed lacks) told p.chains
+laid_none laid end _ tree (names_at whole s parsed lacks told) p = asked_none p.whole s (asked_too laid (Err s) whole p.whole parsed p.parsed lacks) told p.keeps
 laid_none laid end _ tree (not_built whole parsed has none) p = none tree p.program
 
 -- a text that is stopped spells no tree
@@ -356,9 +357,10 @@ lexer_limit text lex.Want h e = absurd (omega arith)
 laid_limit : (text : List ℕ) (laid : List Token) (s : Stop) → HasLayout text laid → StopsLaid laid (end_place text) s → stop_status s ≡ 8 → NestsTooDeep text ⊎ HasDeepTree text
 laid_limit text laid _ h (syntax_at at g) e = absurd (omega arith)
 laid_limit text laid _ h (nesting_at at g) e = inl (record { laid = laid; layout = h; at = at; nesting = g })
-laid_limit text laid _ h (trees_at whole (checking.Fixity at) parsed lacks told) e = absurd (omega arith)
-laid_limit text laid _ h (trees_at whole (checking.Depth at) parsed deep told) e = inr (record { laid = laid; layout = h; whole = whole; parsed = parsed; at = at; deep = deep })
-laid_limit text laid _ h (trees_at whole checking.Want parsed lacks told) e = absurd (told refl)
+laid_limit text laid _ h (names_at whole (checking.Fixity at) parsed lacks told) e = absurd (omega arith)
+laid_limit text laid _ h (names_at whole (checking.Depth at) parsed deep told) e = inr (record { laid = laid; layout = h; whole = whole; parsed = parsed; at = at; deep = deep })
+laid_limit text laid _ h (names_at whole (checking.Name b) parsed lacks told) e = absurd (omega arith)
+laid_limit text laid _ h (names_at whole checking.Want parsed lacks told) e = absurd (told refl)
 laid_limit text laid _ h (not_built whole parsed has none) e = absurd (omega arith)
 
 unlaid_limit : (text : List ℕ) (s : Stop) → LacksLayout text s → stop_status s ≡ 8 → (at : At) × Lexes form.Program text (Err (lex.Tokens at))
@@ -380,18 +382,18 @@ too_many text at h = no_tokens _ (lexemes (lex.Tokens at) h (λ e. cc))
 too_deep : (text : List ℕ) (deep : NestsTooDeep text) → IsStopped text (parser_stop (parsing.Nesting deep.at))
 too_deep text deep = laid_tokens deep.laid _ deep.layout (nesting_at deep.at deep.nesting)
 
-has_deep : (text : List ℕ) (deep : HasDeepTree text) → IsStopped text (trees_stop (checking.Depth deep.at))
-has_deep text deep = laid_tokens deep.laid _ deep.layout (trees_at deep.whole (checking.Depth deep.at) deep.parsed deep.deep (λ e. cc))
+has_deep : (text : List ℕ) (deep : HasDeepTree text) → IsStopped text (names_stop (checking.Depth deep.at))
+has_deep text deep = laid_tokens deep.laid _ deep.layout (names_at deep.whole (checking.Depth deep.at) deep.parsed deep.deep (λ e. cc))
 
 text_long : (text : List ℕ) (status : ℕ) (bytes : List ℕ) → IsDueFor text status bytes → PassesLimit text → status ≡ 8
 text_long text _ _ (long h) l = refl
 text_long text _ _ (stopped s h why) (inl l) = absurd (omega arith)
 text_long text _ _ (stopped s h why) (inr (inl (at, many))) = ap stop_status (stopped_once text s (lexer_stop (lex.Tokens at)) why (too_many text at many))
-text_long text _ _ (stopped s h why) (inr (inr (inr deep))) = ap stop_status (stopped_once text s (trees_stop (checking.Depth deep.at)) why (has_deep text deep))
+text_long text _ _ (stopped s h why) (inr (inr (inr deep))) = ap stop_status (stopped_once text s (names_stop (checking.Depth deep.at)) why (has_deep text deep))
 text_long text _ _ (stopped s h why) (inr (inr (inl deep))) = ap stop_status (stopped_once text s (parser_stop (parsing.Nesting deep.at)) why (too_deep text deep))
 text_long text _ _ (ran tree a h program m) (inl l) = absurd (omega arith)
 text_long text _ _ (ran tree a h program m) (inr (inl (at, many))) = absurd (stopped_none text (lexer_stop (lex.Tokens at)) tree (too_many text at many) program)
-text_long text _ _ (ran tree a h program m) (inr (inr (inr deep))) = absurd (stopped_none text (trees_stop (checking.Depth deep.at)) tree (has_deep text deep) program)
+text_long text _ _ (ran tree a h program m) (inr (inr (inr deep))) = absurd (stopped_none text (names_stop (checking.Depth deep.at)) tree (has_deep text deep) program)
 text_long text _ _ (ran tree a h program m) (inr (inr (inl deep))) = absurd (stopped_none text (parser_stop (parsing.Nesting deep.at)) tree (too_deep text deep) program)
 
 text_refused : (text : List ℕ) (status : ℕ) (bytes : List ℕ) → IsDueFor text status bytes → status ≡ 1 → IsRefused text

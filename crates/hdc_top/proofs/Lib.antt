@@ -4,3 +4,5 @@ pub mod Dues
 pub mod Tokens
 pub mod Texts
 pub mod NoTree
+pub mod Joining
+pub mod OneNames

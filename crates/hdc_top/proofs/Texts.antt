@@ -23,12 +23,12 @@ use Rattle.hdc_parse.specs.declared.stop.ParseStop.TheVariants as parsing
 use Rattle.hdc_parse.specs.Exact.{IsParsed}
 use Rattle.hdc_parse.specs.Answer.{IsAnswer}
 use Rattle.hdc_tree.specs.declared.program.Tree as program
-use Rattle.hdc_names.specs.declared.check.TreesStop.{TreesStop}
-use Rattle.hdc_names.specs.declared.check.TreesStop.TheVariants as checking
+use Rattle.hdc_top.specs.declared.names.NamesStop.{NamesStop}
+use Rattle.hdc_top.specs.declared.names.NamesStop.TheVariants as checking
 use Rattle.hdc_written.specs.Mirror.{tops_of}
-use Rattle.hdc_names.specs.Trees.{IsChecked}
+use Rattle.hdc_top.specs.Names.{AreChecked}
 use Rattle.hdc_top.specs.Prelude.{IsPrelude}
-use Rattle.hdc_top.specs.Stopped.{not_yet, refused_at, layout_stop, lexer_stop, parser_stop, trees_stop, end_place, HasLayout, HaveTrees, HasTrees, StopsLaid, syntax_at, nesting_at, trees_at, not_built, IsStopped, no_tokens, lexemes, layout, laid_tokens}
+use Rattle.hdc_top.specs.Stopped.{not_yet, refused_at, layout_stop, lexer_stop, parser_stop, names_stop, end_place, HasLayout, IsAsked, KeepsRules, StopsLaid, syntax_at, nesting_at, names_at, not_built, IsStopped, no_tokens, lexemes, layout, laid_tokens}
 use Rattle.hdc_top.specs.Results.{IsBetween, Finds, Reads, ReadsProgram, LaysText, ChecksWhole, ReadsLaid, ReadsText, Compiles}
 use Rattle.hdc_top.specs.declared.reader.ReadStop.{ReadStop}
 use Rattle.hdc_top.specs.declared.reader.ReadStop.TheVariants as stop
@@ -58,23 +58,24 @@ program_stops laid inner stop.NotYet between h = λ tree p.
 program_stops laid inner stop.Want between h = tt
 
 -- laid-out tokens that are a program, but not of the form that is built
-pub not_built_stops : (laid : List text_token.Token) (end : At) (whole : program.Tree) (s : Stop) → IsParsed laid whole → HasTrees whole → SpellsNone laid → s ≡ not_yet → ReadsLaid laid end (Err s)
+pub not_built_stops : (laid : List text_token.Token) (end : At) (whole : program.Tree) (s : Stop) → IsParsed laid whole → KeepsRules whole → SpellsNone laid → s ≡ not_yet → ReadsLaid laid end (Err s)
 not_built_stops laid end whole s parsed has none same = subst (λ s. ReadsLaid laid end (Err s)) (sym same) (not_built whole parsed has none)
 
--- where a chain or section has no tree, or a tree is too deep
-told_stops : (whole : program.Tree) (why : TreesStop) → HaveTrees whole (Err why) → ChecksWhole whole (Err (trees_stop why))
-told_stops whole (checking.Fixity at) h = record { why = checking.Fixity at; is = refl; trees = h; told = λ e. cc }
-told_stops whole (checking.Depth at) h = record { why = checking.Depth at; is = refl; trees = h; told = λ e. cc }
+-- where a rule on chains, depths or names is broken
+told_stops : (whole : program.Tree) (why : NamesStop) → IsAsked whole (Err why) → ChecksWhole whole (Err (names_stop why))
+told_stops whole (checking.Fixity at) h = record { why = checking.Fixity at; is = refl; asked = h; told = λ e. cc }
+told_stops whole (checking.Depth at) h = record { why = checking.Depth at; is = refl; asked = h; told = λ e. cc }
+told_stops whole (checking.Name b) h = record { why = checking.Name b; is = refl; asked = h; told = λ e. cc }
 told_stops whole checking.Want h = tt
 
-pub trees_stops : (whole prelude : program.Tree) (why : TreesStop) (s : Stop) → IsPrelude prelude → IsChecked (tops_of prelude) (tops_of whole) (Err why) → s ≡ trees_stop why → ChecksWhole whole (Err s)
-trees_stops whole prelude why s is h same = subst (λ s. ChecksWhole whole (Err s)) (sym same) (told_stops whole why (record { prelude = prelude; is = is; checked = h }))
+pub names_stops : (whole prelude : program.Tree) (why : NamesStop) (s : Stop) → IsPrelude prelude → AreChecked (tops_of prelude) (tops_of whole) (Err why) → s ≡ names_stop why → ChecksWhole whole (Err s)
+names_stops whole prelude why s is h same = subst (λ s. ChecksWhole whole (Err s)) (sym same) (told_stops whole why (record { prelude = prelude; is = is; checked = h }))
 
--- laid-out tokens that are a program, where not all chains and sections are found to have trees that are not too deep
+-- laid-out tokens that are a program, which is not found to keep the rules on chains, depths and names
 pub checked_stops : (laid : List text_token.Token) (end : At) (whole : program.Tree) (s : Stop) → IsParsed laid whole → ChecksWhole whole (Err s) → ReadsLaid laid end (Err s)
 checked_stops laid end whole text_stop.Want parsed h = tt
-checked_stops laid end whole (text_stop.Refused r) parsed h = subst (λ s. StopsLaid laid end s) (sym h.is) (trees_at whole h.why parsed h.trees h.told)
-checked_stops laid end whole (text_stop.Limit l) parsed h = subst (λ s. StopsLaid laid end s) (sym h.is) (trees_at whole h.why parsed h.trees h.told)
+checked_stops laid end whole (text_stop.Refused r) parsed h = subst (λ s. StopsLaid laid end s) (sym h.is) (names_at whole h.why parsed h.asked h.told)
+checked_stops laid end whole (text_stop.Limit l) parsed h = subst (λ s. StopsLaid laid end s) (sym h.is) (names_at whole h.why parsed h.asked h.told)
 
 parsing_stops : (laid : List text_token.Token) (end : At) (s : ParseStop) → IsAnswer laid end (Err s) → ReadsLaid laid end (Err (parser_stop s))
 parsing_stops laid end (parsing.Syntax at) h = syntax_at at h

@@ -1,5 +1,6 @@
 pub mod Layout
 pub mod Prelude
+pub mod Names
 pub mod Stopped
 pub mod Results
 pub mod Parsing

@@ -12,11 +12,11 @@ use Rattle.hdc_tree.specs.declared.token.Token.{Token}
 use Rattle.hdc_tree.specs.Tree.{Tree, tree_of}
 use Rattle.hdc_tree.specs.Lexemes.{braced}
 use Rattle.hdc_tree.specs.Program.{IsProgram, SpellsNone}
-use Rattle.hdc_names.specs.declared.check.TreesStop.{TreesStop}
-use Rattle.hdc_names.specs.declared.check.TreesStop.TheVariants as checking
+use Rattle.hdc_top.specs.declared.names.NamesStop.{NamesStop}
+use Rattle.hdc_top.specs.declared.names.NamesStop.TheVariants as checking
 use Rattle.hdc_code.specs.declared.instr.Instr.{Instr}
 use Rattle.hdc_top.specs.Code.{CarriesMeaning}
-use Rattle.hdc_top.specs.Stopped.{trees_stop, HasLayout, LacksLayout, HaveTrees, HasTrees, SpellsLaid, SpellsTree, StopsLaid, IsStopped}
+use Rattle.hdc_top.specs.Stopped.{names_stop, HasLayout, LacksLayout, IsAsked, KeepsRules, SpellsLaid, SpellsTree, StopsLaid, IsStopped}
 use Rattle.hdc_top.specs.declared.reader.ReadStop.{ReadStop}
 use Rattle.hdc_top.specs.declared.reader.ReadStop.TheVariants as stop
 
@@ -42,15 +42,15 @@ ReadsProgram laid (Ok e) = IsProgram laid (tree_of e)
 ReadsProgram laid (Err stop.NotYet) = SpellsNone laid
 ReadsProgram laid (Err stop.Want) = Unit {0}
 
--- each chain and section has a tree, and none is too deep, or why not
+-- a program keeps the rules on chains, depths and names, or why not
 pub record StopsWhole (whole : program.Tree) (stop : Stop) : Type 0 where
-  pub why : TreesStop
-  pub is : stop ≡ trees_stop why
-  pub trees : HaveTrees whole (Err why)
+  pub why : NamesStop
+  pub is : stop ≡ names_stop why
+  pub asked : IsAsked whole (Err why)
   pub told : why ≡ checking.Want → ⊥
 
 abbrev pub ChecksWhole : program.Tree → Result (Unit {0}) Stop → Type 0
-ChecksWhole whole (Ok done) = HasTrees whole
+ChecksWhole whole (Ok done) = KeepsRules whole
 ChecksWhole whole (Err text_stop.Want) = Unit {0}
 ChecksWhole whole (Err (text_stop.Refused r)) = StopsWhole whole (text_stop.Refused r)
 ChecksWhole whole (Err (text_stop.Limit l)) = StopsWhole whole (text_stop.Limit l)

@@ -23,10 +23,10 @@ use Rattle.hdc_tree.specs.Program.{IsProgram, SpellsNone}
 use Rattle.hdc_parse.specs.declared.stop.ParseStop.{ParseStop}
 use Rattle.hdc_parse.specs.declared.stop.ParseStop.TheVariants as parsing
 use Rattle.hdc_parse.specs.Exact.{IsParsed, IsSyntax, IsNesting}
-use Rattle.hdc_names.specs.declared.check.TreesStop.{TreesStop}
-use Rattle.hdc_names.specs.declared.check.TreesStop.TheVariants as checking
+use Rattle.hdc_top.specs.declared.names.NamesStop.{NamesStop}
+use Rattle.hdc_top.specs.declared.names.NamesStop.TheVariants as checking
 use Rattle.hdc_written.specs.Mirror.{tops_of}
-use Rattle.hdc_names.specs.Trees.{IsChecked}
+use Rattle.hdc_top.specs.Names.{AreChecked}
 use Rattle.hdc_top.specs.Prelude.{IsPrelude}
 pub use Rattle.hdc_top.specs.Layout.{end_place, HasLayout}
 
@@ -61,28 +61,28 @@ parser_stop (parsing.Syntax at) = refused_at kind.Syntax at
 parser_stop (parsing.Nesting at) = stop.Limit (limit.Nesting which.Program at)
 parser_stop parsing.Want = stop.Want
 
--- what a program is, whose chains have no trees or too deep ones
-abbrev pub trees_stop : TreesStop → Stop
-trees_stop (checking.Fixity at) = refused_at kind.Fixity at
-trees_stop (checking.Depth at) = stop.Limit (limit.Depth at)
-trees_stop checking.Want = stop.Want
+-- what a program is that breaks a rule on chains, depths or names
+abbrev pub names_stop : NamesStop → Stop
+names_stop (checking.Fixity at) = refused_at kind.Fixity at
+names_stop (checking.Depth at) = stop.Limit (limit.Depth at)
+names_stop (checking.Name b) = stop.Refused (record { kind = kind.Name; rule = b.rule; at = b.at })
+names_stop checking.Want = stop.Want
 
--- what is said of the chains and sections of a program beside those of the prelude, and of the depths of their trees
-pub record HaveTrees (whole : program.Tree) (result : Result (Unit {0}) TreesStop) : Type 0 where
+-- what is said of a program behind the prelude, where they are asked to keep the rules on chains, depths and names
+pub record IsAsked (whole : program.Tree) (result : Result (Unit {0}) NamesStop) : Type 0 where
   pub prelude : program.Tree
   pub is : IsPrelude prelude
-  pub checked : IsChecked (tops_of prelude) (tops_of whole) result
+  pub checked : AreChecked (tops_of prelude) (tops_of whole) result
 
--- each of them has a tree, and none is too deep
-abbrev pub HasTrees : program.Tree → Type 0
-HasTrees whole = HaveTrees whole (Ok tt)
+-- they keep them
+abbrev pub KeepsRules : program.Tree → Type 0
+KeepsRules whole = IsAsked whole (Ok tt)
 
--- the laid-out tokens are a program of the language, whose chains and sections have trees that are not too deep, and spell
--- the tree
+-- the laid-out tokens are a program of the language that keeps the rules on chains, depths and names, and spell the tree
 pub record SpellsLaid (laid : List Token) (tree : Tree) : Type 0 where
   pub whole : program.Tree
   pub parsed : IsParsed laid whole
-  pub chains : HasTrees whole
+  pub keeps : KeepsRules whole
   pub program : IsProgram laid tree
 
 -- the text spells the tree
@@ -91,13 +91,13 @@ pub record SpellsTree (text : List ℕ) (tree : Tree) : Type 0 where
   pub layout : HasLayout text laid
   pub spelled : SpellsLaid laid tree
 
--- why laid-out tokens spell no tree: no program goes on with one of them, one nests too deep, or they are a program, and a
--- chain or section has no tree, or a tree is too deep, or neither, but the program is not of the form that is built
+-- why laid-out tokens spell no tree: no program goes on with one of them, one nests too deep, or they are a program that
+-- breaks a rule on chains, depths or names, or breaks none, but is not of the form that is built
 pub data StopsLaid (laid : List Token) (end : At) : Stop → Type 0 where
   syntax_at : (at : At) → IsSyntax laid end at → StopsLaid laid end (parser_stop (parsing.Syntax at))
   nesting_at : (at : At) → IsNesting laid end at → StopsLaid laid end (parser_stop (parsing.Nesting at))
-  trees_at : (whole : program.Tree) (s : TreesStop) → IsParsed laid whole → HaveTrees whole (Err s) → (s ≡ checking.Want → ⊥) → StopsLaid laid end (trees_stop s)
-  not_built : (whole : program.Tree) → IsParsed laid whole → HasTrees whole → SpellsNone laid → StopsLaid laid end not_yet
+  names_at : (whole : program.Tree) (s : NamesStop) → IsParsed laid whole → IsAsked whole (Err s) → (s ≡ checking.Want → ⊥) → StopsLaid laid end (names_stop s)
+  not_built : (whole : program.Tree) → IsParsed laid whole → KeepsRules whole → SpellsNone laid → StopsLaid laid end not_yet
 
 -- why a text has no laid-out tokens: its lexemes or its layout are refused, or it has too many lexemes
 pub data LacksLayout (text : List ℕ) : Stop → Type 0 where
@@ -109,7 +109,7 @@ pub data IsStopped (text : List ℕ) : Stop → Type 0 where
   no_tokens : (s : Stop) → LacksLayout text s → IsStopped text s
   laid_tokens : (laid : List Token) (s : Stop) → HasLayout text laid → StopsLaid laid (end_place text) s → IsStopped text s
 
--- the lexemes, the layout, the syntax, the chains or the form of a text are refused
+-- the lexemes, the layout, the syntax, the chains, the names or the form of a text are refused
 abbrev pub IsRefused : List ℕ → Type 0
 IsRefused text = (r : Refusal) × IsStopped text (stop.Refused r)
 
@@ -127,7 +127,7 @@ pub record HasDeepTree (text : List ℕ) : Type 0 where
   pub whole : program.Tree
   pub parsed : IsParsed laid whole
   pub at : At
-  pub deep : HaveTrees whole (Err (checking.Depth at))
+  pub deep : IsAsked whole (Err (checking.Depth at))
 
 -- a text passes a limit: it has too many bytes, or too many lexemes, or nests too deep, or a tree of it is too deep
 abbrev pub PassesLimit : List ℕ → Type 0

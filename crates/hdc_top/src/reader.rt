@@ -2,16 +2,16 @@
 
 ghost use Rattle.std.specs.Prelude.{◌≡◌, ◌≤◌, ℕ, length};
 ghost use Rattle.hdc_top.specs.declared.reader.ReadStop.TheVariants as stop;
-ghost use Rattle.hdc_top.specs.Stopped.{layout_stop, lexer_stop, not_yet, parser_stop, refused_at, trees_stop};
+ghost use Rattle.hdc_top.specs.Stopped.{layout_stop, lexer_stop, not_yet, parser_stop, refused_at, names_stop};
 ghost use Rattle.hdc_top.specs.Results.{ChecksWhole, LaysText, ReadsLaid, ReadsProgram, ReadsText};
 
 use crate::lexemes::{arithmetic, between_braces};
+use crate::names::{NamesStop, check_names};
 use crate::parser::parse;
 use crate::prelude::prelude_tree;
 use hdc_base::{At, Kind, Limit, Refusal, Stop, Token, Tokens, Which};
 use hdc_layout::{LayoutStop, lay_out};
 use hdc_lex::{Form, LexStop, end_of, lex};
-use hdc_names::{TreesStop, check_trees};
 use hdc_parse::ParseStop;
 use hdc_tree::{Exp, Tree};
 use std::alloc::{AllocError, AllocFailed, Global};
@@ -43,7 +43,7 @@ impl<T: Drop> From<AllocFailed<T>> for ReadStop {
 
 /// The tree that a text spells, or why it spells none: a refusal of its lexemes, its layout or its syntax,
 /// the limit on lexemes or on nesting, a chain or section of the prelude or of its program that has no tree, a
-/// tree that is too deep, or that it is not of the form that is built.
+/// tree that is too deep, a rule on names that is broken, or that it is not of the form that is built.
 pub fn read(alloc: Global, text: &[u8]) -> Result<Exp, Stop>
     requires { length text.now ≤ 1048576 }
     ensures { ReadsText text.now result }
@@ -86,14 +86,14 @@ fn parse_and_read(alloc: Global, laid: &[Token], end: At) -> Result<Exp, Stop>
     }
 }
 
-// Whether each chain and section of the prelude and of a program has a tree, and none is too deep.
+// Whether the prelude and a program keep the rules on chains, depths and names.
 fn check_whole(alloc: Global, whole: &Tree) -> Result<(), Stop>
     ensures { ChecksWhole whole.now result }
 {
     let prelude = prelude_tree(alloc)?;
-    match check_trees(alloc, &prelude, whole) {
+    match check_names(alloc, &prelude, whole) {
         Ok(()) => Ok(()),
-        Err(stop) => Err(trees_stop(stop)),
+        Err(stop) => Err(names_stop(stop)),
     }
 }
 
@@ -155,12 +155,17 @@ fn parser_stop(stop: ParseStop) -> Stop
     }
 }
 
-fn trees_stop(stop: TreesStop) -> Stop
-    ensures { result ≡ trees_stop stop }
+fn names_stop(stop: NamesStop) -> Stop
+    ensures { result ≡ names_stop stop }
 {
     match stop {
-        TreesStop::Fixity(at) => refused(Kind::Fixity, at),
-        TreesStop::Depth(at) => Stop::Limit(Limit::Depth(at)),
-        TreesStop::Want => Stop::Want,
+        NamesStop::Fixity(at) => refused(Kind::Fixity, at),
+        NamesStop::Depth(at) => Stop::Limit(Limit::Depth(at)),
+        NamesStop::Name(breach) => Stop::Refused(Refusal {
+            kind: Kind::Name,
+            rule: breach.rule,
+            at: breach.at,
+        }),
+        NamesStop::Want => Stop::Want,
     }
 }

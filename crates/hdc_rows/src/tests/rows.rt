@@ -204,15 +204,12 @@ fn each_fault_and_trap_has_its_place(rt: HostRuntime) -> Result<(), Fail> {
 }
 
 // Programs of the language that are not of the form that is built.
-const NOT_BUILT: [&str; 16] = [
+const NOT_BUILT: [&str; 22] = [
     "",
-    "main = x",
     "main = - 1",
     "main = 1 2",
-    "main = 1 --> 2",
     "main = (-1)",
     "main1 = 1",
-    "main = 1\nmain = 2",
     "mai = 1",
     "{ main = 1; }",
     "main = 'a'",
@@ -221,6 +218,18 @@ const NOT_BUILT: [&str; 16] = [
     "main = (1) (2)",
     "main = (1 +) 2",
     "main = let in 1",
+    // A name that hides another, functions that need one another, and equations with an empty member between.
+    "f x = let x = 1 in x\nmain = f 1",
+    "main = let f x = g x; g x = f x in f 1",
+    "{ f 0 = 1; ; f x = 2; main = 1 }",
+    // What the prelude has, and what a program declares under a name of the prelude's.
+    "main = map abs [x | Just x <- [Nothing]]",
+    "data Maybe = Nothing\nf Nothing = 1\nmain = 1",
+    // A synonym whose parameter goes, and one that only hands it on.
+    "type S a = Int\ndata T a = K (S (T [a]))\nmain = 1",
+    "type S a = a\ndata T a = K (T (S a))\nmain = 1",
+    "type A = [B]\ntype B = Int\nmain = 1",
+    "data T a = K (U [a])\ndata U a = L a\nmain = 1",
 ];
 
 #[test]
@@ -346,6 +355,84 @@ fn each_chain_without_a_tree_has_its_place(rt: HostRuntime) -> Result<(), Fail> 
     for (text, place) in FIXITY {
         let left = left(rt.alloc(), text.as_bytes())?;
         let line = format!(in rt.alloc(); "refused fixity at {place}\n")?;
+        assert_eq!(rt; left.status, 1, "of {text}");
+        assert_eq!(rt; left.output.as_slice(), line.as_bytes(), "of {text}");
+    }
+    Ok(())
+}
+
+// Programs that break a rule on names, and the rule with its place.
+const NAMES: [(&str, &str); 48] = [
+    ("f = 1\nmain = 1\nf = 2", "N2 at 3:1"),
+    ("f x x = 1\nmain = 1", "N3 at 1:5"),
+    ("f 0 = 1\nf x y = 2\nmain = 1", "N4 at 2:1"),
+    ("g :: Int\nmain = 1", "N5 at 1:1"),
+    ("f (Just x y) = 1\nmain = 1", "N6 at 1:4"),
+    ("f :: Maybe\nf = 1\nmain = 1", "N7 at 1:6"),
+    ("data T a = K b\nmain = 1", "N8 at 1:14"),
+    ("type A = [B]\ntype B = A\nmain = 1", "N9 at 1:6"),
+    ("data T a = K (T [a])\nmain = 1", "N10 at 1:15"),
+    ("main = let x = y; y = x in 1", "N11 at 1:12"),
+    ("main = let i :: a -> a; i x = x in 1", "N12 at 1:17"),
+    // Uses of what is not in scope: variables, operators, constructors and types.
+    ("main = x", "N1 at 1:8"),
+    ("main = 1 --> 2", "N1 at 1:10"),
+    ("main = 1 `f` 2", "N1 at 1:11"),
+    ("main = (--> 1)", "N1 at 1:9"),
+    ("main = Foo", "N1 at 1:8"),
+    ("f Foo = 1\nmain = 1", "N1 at 1:3"),
+    ("f :: Foo\nf = 1\nmain = 1", "N1 at 1:6"),
+    ("main = [x | x <- x]", "N1 at 1:18"),
+    ("main = (\\x -> 1) x", "N1 at 1:18"),
+    ("f = 1 where x = 1\nmain = x", "N1 at 2:8"),
+    // Names that are bound twice, or are those of skeletons.
+    ("main = 1\nmain = 2", "N2 at 2:1"),
+    ("f 0 = 1\nf :: Int -> Int\nf x = 2\nmain = 1", "N2 at 3:1"),
+    ("x +++ y = 1\nmain = 1\nx +++ y = 2", "N2 at 3:3"),
+    ("main = let x = 1; x = 2 in x", "N2 at 1:19"),
+    ("main = let (x, y) = 1; x = 2 in x", "N2 at 1:24"),
+    ("data T a a = K\nmain = 1", "N2 at 1:10"),
+    ("data T = K\ntype T = Int\nmain = 1", "N2 at 2:6"),
+    ("data T = K | K\nmain = 1", "N2 at 1:14"),
+    ("dcGen = 1\nmain = 1", "N2 at 1:1"),
+    ("main = \\dcElem -> 1", "N2 at 1:9"),
+    // The second variable of one equation, lambda, alternative or generator.
+    ("main = \\x x -> 1", "N3 at 1:11"),
+    ("main = case 1 of { (x, [x]) -> 1 }", "N3 at 1:25"),
+    ("main = [1 | (x, x@y) <- []]", "N3 at 1:17"),
+    // Signatures and fixities.
+    ("f :: Int\nf :: Int\nf = 1\nmain = 1", "N5 at 2:1"),
+    ("infixl 6 +++\nmain = 1", "N5 at 1:10"),
+    ("main = let f :: Int in 1", "N5 at 1:12"),
+    // Arguments of constructors and of types.
+    ("main = case 1 of { Just -> 1 }", "N6 at 1:20"),
+    ("f :: Int Int\nf = 1\nmain = 1", "N7 at 1:6"),
+    ("type S a = b\nmain = 1", "N8 at 1:12"),
+    // A synonym that only reaches one that reaches itself.
+    ("type A = B\ntype B = C\ntype C = B\nmain = 1", "N9 at 2:6"),
+    // Data types that use their group at other arguments, also through synonyms.
+    ("data T a b = K (T b a)\nmain = 1", "N10 at 1:17"),
+    (
+        "data T a = K (U [a])\ndata U a = L (T a)\nmain = 1",
+        "N10 at 1:15",
+    ),
+    (
+        "type S a = T [a]\ndata T a = K (S a)\nmain = 1",
+        "N10 at 2:15",
+    ),
+    // Values that need themselves through functions.
+    ("main = let f x = y; y = f 1 in y", "N11 at 1:21"),
+    ("main = 1 where (x, y) = (y, 1)", "N11 at 1:16"),
+    // The least place, and there the lowest rule.
+    ("main = x\nmain = y", "N1 at 1:8"),
+    ("main = let i :: T a; i = 1 in x", "N1 at 1:17"),
+];
+
+#[test]
+fn each_broken_rule_on_names_has_its_place(rt: HostRuntime) -> Result<(), Fail> {
+    for (text, rule) in NAMES {
+        let left = left(rt.alloc(), text.as_bytes())?;
+        let line = format!(in rt.alloc(); "refused name {rule}\n")?;
         assert_eq!(rt; left.status, 1, "of {text}");
         assert_eq!(rt; left.output.as_slice(), line.as_bytes(), "of {text}");
     }

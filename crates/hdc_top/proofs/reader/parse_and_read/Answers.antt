@@ -8,7 +8,7 @@ returns-in_err-check_whole-in-Ok c =
     rw (p.1, p.2) (checked_stops c.args.laid.now c.args.end c.in-Ok.whole _ c.in-Ok.ensures c.in_err-check_whole-in-Ok.ensures)
 
 pub returns-in-Ok-program : goal.returns-in-Ok-program
-returns-in-Ok-program c = record { whole = c.in-Ok.whole; parsed = c.in-Ok.ensures; chains = c.in_ok-check_whole-in-Ok.ensures; program = c.in-Ok-program.ensures }
+returns-in-Ok-program c = record { whole = c.in-Ok.whole; parsed = c.in-Ok.ensures; keeps = c.in_ok-check_whole-in-Ok.ensures; program = c.in-Ok-program.ensures }
 
 pub returns-in-Err-NotYet : goal.returns-in-Err-NotYet
 returns-in-Err-NotYet c = not_built_stops c.args.laid.now c.args.end c.in-Ok.whole _ c.in-Ok.ensures c.in_ok-check_whole-in-Ok.ensures (rw c.in-Err-NotYet.field-0-is at c.in-Err-NotYet.ensures) c.not_yet.ensures
