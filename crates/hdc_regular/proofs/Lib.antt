@@ -27,3 +27,4 @@ pub mod Sound
 pub mod Wants
 pub mod UsesFound
 pub mod AllFound
+pub mod Steps

@@ -17,10 +17,15 @@ mod demand;
 mod judging;
 mod laws;
 mod names;
+mod node_order;
 mod outline;
 mod outlining;
+
 mod part;
+mod passes;
 mod sounds;
 mod standing;
+mod summary;
+mod texts;
 
 pub use laws::finds_all;
