@@ -150,4 +150,4 @@ pub record IsFoundIn (ps ts : List Top) (sounds : List Bool) (order : List ℕ) 
   pub closed : IsClosed (named_needs (built_in_order ps ts sounds order (length ps + length ts)))
   pub numbers : List ℕ
   pub numbering : IsNumbering (named_needs (built_in_order ps ts sounds order (length ps + length ts))) numbers
-  pub found : found ≡ all_noted nothing_found (breaches_from (length ps) (built_in_order ps ts sounds order (length ps + length ts)) numbers order)
+  pub noted : found ≡ all_noted nothing_found (breaches_from (length ps) (built_in_order ps ts sounds order (length ps + length ts)) numbers order)

@@ -20,7 +20,6 @@ mod names;
 mod node_order;
 mod outline;
 mod outlining;
-
 mod part;
 mod passes;
 mod sounds;
