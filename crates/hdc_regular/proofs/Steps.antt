@@ -1,11 +1,18 @@
 -- Passes over declarations, step by step.
-use Rattle.std.proofs.Common.{◌≡◌, ◌⊎◌, inl, inr, ℕ, zero, suc, ◌+◌, ◌-◌, ◌<◌, ◌≤◌, Bool, true, false, List, [], ◌∷◌, ◌++◌, map, length, length-append, get_or, drop, refl, sym, ap, subst, ◌∙◌, arith}
+use Rattle.std.proofs.Common.{◌≡◌, ◌⊎◌, inl, inr, ℕ, zero, suc, ◌+◌, ◌-◌, ◌<◌, ◌≤◌, Bool, true, false, List, [], ◌∷◌, ◌++◌, map, length, length-append, get_or, drop, refl, sym, ap, subst, ◌∙◌, arith, add-one, drop-cons, append_assoc, append-nil}
 use Rattle.std.proofs.lemmas.Bool.{cases_lt}
 use Rattle.std.proofs.lemmas.List.{set_past, get_or_append_left, get_or-append-add}
+use Rattle.std.proofs.Math.ListN.{drop_of_length-le}
 use Rattle.std.specs.Prelude.{slice_set, slice_index, EachIndex}
 use Rattle.hdc_tree.specs.declared.program.Top.{Top}
 use Rattle.hdc_tree.specs.declared.program.Top.TheVariants as top
+use Rattle.hdc_tree.specs.declared.program.NextTop.{NextTop}
 use Rattle.hdc_tree.specs.declared.program.Tree.{Tree}
+use Rattle.hdc_written.specs.declared.breach.Found.{Found}
+use Rattle.hdc_written.specs.Breaches.{all_noted}
+use Rattle.hdc_written.proofs.FirstBreach.{noted_joined}
+use Rattle.hdc_regular.specs.declared.demand.Demand.{Demand}
+use Rattle.hdc_regular.specs.declared.summary.Summary.{Summary}
 use Rattle.hdc_graph.specs.Groups.{AreGroups}
 use Rattle.hdc_graph.specs.Needs.{Nodes, IsClosed, IsNumbering, NeedsComeFirst, AreCyclic}
 use Rattle.hdc_graph.specs.declared.components.Components.{Components}
@@ -24,7 +31,7 @@ use Rattle.hdc_regular.specs.Built.{built_declaration, each_built_declaration, b
 use Rattle.hdc_regular.specs.Judged.{repeat_of}
 use Rattle.hdc_regular.specs.Laws.{AreRanked}
 use Rattle.hdc_regular.specs.Known.{AreKnown}
-use Rattle.hdc_regular.specs.Passes.{kind_of, top_kind, IsBody, before_of, text_of, AreTexts, built_texts}
+use Rattle.hdc_regular.specs.Passes.{kind_of, top_kind, IsBody, before_of, text_of, AreTexts, built_texts, summary_of, summary_wrong, summaries_wrong}
 use Rattle.hdc_regular.proofs.Whole.{size_built}
 
 -- nothing is set behind the last one
@@ -34,6 +41,29 @@ nothing_set xs n x le = set_past xs n x le
 -- the declarations of a text are one more than those behind the first
 pub size_of_tree : (t : Tree) → length (tops_of t) ≡ suc (length t.rest)
 size_of_tree t = ap (λ z. suc z) (size_tops_behind t.rest)
+
+-- the declaration behind the first one of a text
+behind_at : (ns : List NextTop) (i : ℕ) (n : NextTop) → i < length ns → n ≡ get_or ns i n → get_or (tops_behind ns) i top.Empty ≡ n.top
+behind_at [] i n lt e = absurd (omega (arith, lt))
+behind_at (m ∷ ns) zero n lt e = sym (ap (λ (z : NextTop). z.top) e)
+behind_at (m ∷ ns) (suc i) n lt e = behind_at ns i n (omega (arith, lt)) e
+
+past_at : (ns : List NextTop) (i : ℕ) → length ns ≤ i → get_or (tops_behind ns) i top.Empty ≡ top.Empty
+past_at [] i le = refl
+past_at (m ∷ ns) zero le = absurd (omega (arith, le))
+past_at (m ∷ ns) (suc i) le = past_at ns i (omega (arith, le))
+
+pub next_there : (t : Tree) (rest : List NextTop) (i : ℕ) (n : NextTop) → rest ≡ t.rest → (i ≡ 0 → ⊥) → i - 1 < length rest → n ≡ get_or rest (i - 1) n → get_or (tops_of t) i top.Empty ≡ n.top
+next_there t rest zero n e some lt is = absurd (some refl)
+next_there t rest (suc i) n e some lt is =
+    let same : suc i - 1 ≡ i = omega arith in
+    ap (λ z. get_or (tops_behind z) i top.Empty) (sym e) ∙ behind_at rest i n (subst (λ z. z < length rest) same lt) (subst (λ z. n ≡ get_or rest z n) same is)
+
+pub none_there : (t : Tree) (rest : List NextTop) (i : ℕ) → rest ≡ t.rest → (i ≡ 0 → ⊥) → length rest ≤ i - 1 → get_or (tops_of t) i top.Empty ≡ top.Empty
+none_there t rest zero e some le = absurd (some refl)
+none_there t rest (suc i) e some le =
+    let same : suc i - 1 ≡ i = omega arith in
+    ap (λ z. get_or (tops_behind z) i top.Empty) (sym e) ∙ past_at rest i (subst (λ z. length rest ≤ z) same le)
 
 -- one more of the same
 pub one_more_of : {A : Type 0} (x : A) (n : ℕ) → repeat_of x n ++ x ∷ [] ≡ repeat_of x (suc n)
@@ -110,3 +140,29 @@ size_texts outlines ps ts sounds =
     length-append (each_built_declaration outlines (names_before ps sounds) sounds 0 ps) (each_built_declaration outlines (names_of ps ts sounds) sounds (length ps) ts)
     ∙ ap (λ z. z + length (each_built_declaration outlines (names_of ps ts sounds) sounds (length ps) ts)) (size_built outlines (names_before ps sounds) sounds 0 ps)
     ∙ ap (λ z. length ps + z) (size_built outlines (names_of ps ts sounds) sounds (length ps) ts)
+
+-- ---- one after another
+
+-- one more is summed up
+pub one_more_summed : (es : List Declaration) (n : ℕ) (ss us : List Summary) (s : Summary) → n < length es → us ≡ ss ++ s ∷ [] → s ≡ summary_of (declaration_at es n)
+    → map summary_of es ≡ ss ++ map summary_of (drop n es) → map summary_of es ≡ us ++ map summary_of (drop (n + 1) es)
+one_more_summed es n ss us s lt pushed is h =
+    h
+    ∙ ap (λ z. ss ++ map summary_of z) (drop-cons es n neither lt)
+    ∙ ap (λ z. ss ++ z ∷ map summary_of (drop (suc n) es)) (sym is)
+    ∙ sym (append_assoc ss (s ∷ []) (map summary_of (drop (suc n) es)))
+    ∙ ap (λ z. z ++ map summary_of (drop (suc n) es)) (sym pushed)
+    ∙ ap (λ z. us ++ map summary_of (drop z es)) (sym (add-one n))
+
+pub all_summed : (es : List Declaration) (n : ℕ) (ss : List Summary) → length es ≤ n → map summary_of es ≡ ss ++ map summary_of (drop n es) → ss ≡ map summary_of es
+all_summed es n ss le h = sym (h ∙ ap (λ z. ss ++ map summary_of z) (drop_of_length-le es le) ∙ append-nil ss)
+
+-- one more is judged
+pub one_more_judged : (synonyms : List Bool) (demands : List Demand) (numbers : List ℕ) (ss : List Summary) (n : ℕ) (s : Summary) (f g : Found) → n < length ss → s ≡ get_or ss n s → g ≡ all_noted f (summary_wrong synonyms demands numbers n s)
+    → all_noted f (summaries_wrong synonyms demands numbers n (drop n ss)) ≡ all_noted g (summaries_wrong synonyms demands numbers (n + 1) (drop (n + 1) ss))
+one_more_judged synonyms demands numbers ss n s f g lt is noted =
+    ap (λ z. all_noted f (summaries_wrong synonyms demands numbers n z)) (drop-cons ss n s lt)
+    ∙ ap (λ z. all_noted f (summary_wrong synonyms demands numbers n z ++ summaries_wrong synonyms demands numbers (suc n) (drop (suc n) ss))) (sym is)
+    ∙ noted_joined f (summary_wrong synonyms demands numbers n s) (summaries_wrong synonyms demands numbers (suc n) (drop (suc n) ss))
+    ∙ ap (λ z. all_noted z (summaries_wrong synonyms demands numbers (suc n) (drop (suc n) ss))) (sym noted)
+    ∙ ap (λ z. all_noted g (summaries_wrong synonyms demands numbers z (drop z ss))) (sym (add-one n))

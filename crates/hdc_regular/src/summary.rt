@@ -111,13 +111,15 @@ fn build_in(
     if index == 0 {
         return build_top(alloc, outlines, names, is_sound, tree.first.get());
     }
-    match tree.rest.as_slice().get(index - 1) {
-        Some(next) => build_top(alloc, outlines, names, is_sound, &next.top),
-        None => Ok(Body {
-            kind: Kind::Neither,
-            parts: Items::new(alloc),
-        }),
+    let place = index - 1;
+    let rest = tree.rest.as_slice();
+    if place < rest.len() {
+        return build_top(alloc, outlines, names, is_sound, &rest[place].top);
     }
+    Ok(Body {
+        kind: Kind::Neither,
+        parts: Items::new(alloc),
+    })
 }
 
 /// The declaration with a number.
