@@ -28,3 +28,5 @@ pub mod Wants
 pub mod UsesFound
 pub mod AllFound
 pub mod Steps
+pub mod BelowCount
+pub mod FoundInTexts

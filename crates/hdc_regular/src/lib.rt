@@ -14,6 +14,7 @@ mod bodies;
 mod building;
 mod contents;
 mod demand;
+mod find;
 mod judging;
 mod laws;
 mod names;
@@ -27,4 +28,5 @@ mod standing;
 mod summary;
 mod texts;
 
+pub use find::{find_in_prelude, find_in_program};
 pub use laws::finds_all;

@@ -1,4 +1,4 @@
-use Rattle.std.proofs.Common.{◌≡◌, ◌≤◌, ◌∙◌, false, get_or, ap, sym, subst, arith}
+use Rattle.std.proofs.Common.{◌≤◌, ◌∙◌, false, get_or, ap, sym, subst, arith}
 use Rattle.std.specs.Result.{IfOk}
 use Rattle.hdc_regular.specs.Passes.{IsBody}
 use Rattle.hdc_regular.proofs.Steps.{texts_before, texts_there}

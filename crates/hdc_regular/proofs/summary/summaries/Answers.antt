@@ -1,4 +1,4 @@
-use Rattle.std.proofs.Common.{◌≡◌, ◌<◌, ◌≤◌, ◌∙◌, length, sym, arith}
+use Rattle.std.proofs.Common.{◌<◌, ◌≤◌, length, arith}
 use Rattle.hdc_regular.specs.Passes.{before_of, text_of, built_texts}
 use Rattle.hdc_regular.proofs.Steps.{size_texts, one_more_summed, all_summed}
 use Rattle.hdc_regular.proofs.summary.summaries.Goals as goal
