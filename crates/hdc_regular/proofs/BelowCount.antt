@@ -1,10 +1,11 @@
 -- What declarations name as they are built are declarations.
-use Rattle.std.proofs.Common.{◌≡◌, ◌==◌, ◌⊎◌, inl, inr, ℕ, zero, suc, ◌+◌, ◌<◌, ◌≤◌, Bool, true, false, if◌then◌else◌, List, [], ◌∷◌, ◌++◌, Option, Some, None, length, length-map, get_or, Contains, refl, sym, ap, subst, ◌∙◌, arith}
+use Rattle.std.proofs.Common.{◌≡◌, ◌==◌, ℕ, zero, suc, ◌+◌, ◌<◌, ◌≤◌, Bool, true, false, if◌then◌else◌, List, [], ◌∷◌, ◌++◌, Option, Some, None, length, get_or, Contains, sym, subst, ◌∙◌, arith}
+use Rattle.std.proofs.lemmas.List.{length-map}
 use Rattle.std.specs.Str.{bytes_eq}
 use Rattle.hdc_base.specs.declared.place.At.{At}
 use Rattle.hdc_tree.specs.declared.program.Top.{Top}
 use Rattle.hdc_tree.specs.declared.program.Top.TheVariants as top
-use Rattle.hdc_graph.specs.Needs.{Needs, IsClosed}
+use Rattle.hdc_graph.specs.Needs.{IsClosed}
 use Rattle.hdc_written.specs.Scopes.{Binding, standing_for}
 use Rattle.hdc_written.specs.TypeMirror.{type_exp_of}
 use Rattle.hdc_written.specs.WrittenTypes.{WrittenType, type_constructor, type_variable, unit_type, type_in_parentheses, tuple_type, list_type, arrow_type, Types, no_type, next_type}
@@ -12,7 +13,7 @@ use Rattle.hdc_rules.specs.Types.{count_types}
 use Rattle.hdc_regular.specs.declared.outline.Outline.{Outline}
 use Rattle.hdc_regular.specs.declared.standing.Standing.{Standing}
 use Rattle.hdc_regular.specs.declared.standing.Standing.TheVariants as standing
-use Rattle.hdc_regular.specs.Resolved.{Resolved, parameter, use_of, other, Parts, no_part, next_part, part_at, Declaration, data_type, synonym, neither, declaration_at}
+use Rattle.hdc_regular.specs.Resolved.{Resolved, Parts, no_part, next_part, part_at, Declaration, declaration_at}
 use Rattle.hdc_regular.specs.Expansion.{types_in, each_types_in}
 use Rattle.hdc_regular.specs.Named.{body_of, named_needs}
 use Rattle.hdc_regular.specs.Standings.{synonym_standing, top_standings, each_standing}
@@ -65,11 +66,11 @@ module _ (limit : ℕ) where
 
   found_within : (x : List ℕ) (names : List (Binding Standing)) → AreWithin names → IsSomeWithin (standing_for x names)
   found_within x [] h = tt
-  found_within x (b ∷ bs) h = by (bytes_eq x b.name)
+  found_within x (b ∷ bs) h = by (bytes_eq x b.name) (found_within x bs h.1)
     where
-      by : (c : Bool) → IsSomeWithin (if c then Some b.what else standing_for x bs)
-      by true = h.0
-      by false = found_within x bs h.1
+      by : (c : Bool) → IsSomeWithin (standing_for x bs) → IsSomeWithin (if c then Some b.what else standing_for x bs)
+      by true later = h.0
+      by false later = later
 
   synonym_within : (sound : Bool) (n k : ℕ) → n < limit → IsWithin (synonym_standing sound n k)
   synonym_within true n k lt = lt
@@ -191,7 +192,7 @@ module _ (outlines : List Outline) (ps ts : List Top) (sounds : List Bool) where
       (tops_below limit outlines (names_before ps sounds) before sounds 0 ps) (tops_below limit outlines (names_of ps ts sounds) there sounds (length ps) ts)
 
   size : length (named_needs es) ≡ limit
-  size = length-map (λ d. each_types_in (body_of d)) es ∙ size_texts outlines ps ts sounds
+  size = length-map es (λ d. each_types_in (body_of d)) ∙ size_texts outlines ps ts sounds
 
   -- the declarations of both texts name one another, and no other
   pub closed_texts : IsClosed (named_needs (built_by outlines ps ts sounds))

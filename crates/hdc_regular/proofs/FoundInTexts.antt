@@ -1,12 +1,10 @@
 -- What the passes find is what is found in the declarations as they are built.
-use Rattle.std.proofs.Common.{◌≡◌, ℕ, zero, suc, ◌+◌, ◌<◌, ◌≤◌, ◌^◌, Bool, true, false, List, [], ◌∷◌, ◌++◌, Some, map, drop, length, length-map, get_or, refl, sym, ap, subst, ◌∙◌, append-nil, arith}
-use Rattle.std.proofs.Math.ListN.{get_or-map}
+use Rattle.std.proofs.Common.{◌≡◌, ℕ, zero, suc, ◌+◌, Bool, false, List, [], ◌∷◌, ◌++◌, Some, map, drop, length, get_or, refl, sym, ap, subst, ◌∙◌, append-nil}
 use Rattle.std.proofs.Math.Path.{fun_ext}
-use Rattle.std.proofs.lemmas.List.{drop-map}
+use Rattle.std.proofs.lemmas.List.{drop-map, length-map}
 use Rattle.std.specs.Prelude.{slice_set}
 use Rattle.hdc_tree.specs.declared.program.Top.{Top}
 use Rattle.hdc_graph.specs.Needs.{IsClosed, IsNumbering}
-use Rattle.hdc_written.specs.declared.breach.Breach.{Breach}
 use Rattle.hdc_written.specs.declared.breach.Found.{Found}
 use Rattle.hdc_written.specs.Breaches.{all_noted, nothing_found}
 use Rattle.hdc_regular.specs.declared.contents.Usage.{Usage}
@@ -17,15 +15,14 @@ use Rattle.hdc_regular.specs.Resolved.{Resolved, parameter, use_of, other, Parts
 use Rattle.hdc_regular.specs.Expansion.{types_in, each_types_in, synonyms_of}
 use Rattle.hdc_regular.specs.Named.{body_of, named_needs}
 use Rattle.hdc_regular.specs.Contents.{uses_in, each_uses_in}
-use Rattle.hdc_regular.specs.Walk.{Tables, each_wrong, is_in_group}
+use Rattle.hdc_regular.specs.Walk.{each_wrong, is_in_group}
 use Rattle.hdc_regular.specs.Building.{no_outline}
 use Rattle.hdc_regular.specs.Built.{built_by}
 use Rattle.hdc_regular.specs.Outlines.{outlines_by}
 use Rattle.hdc_regular.specs.Demands.{no_demand, demand_at, met, demanded, demands_by}
-use Rattle.hdc_regular.specs.Judging.{uses_wrong}
 use Rattle.hdc_regular.specs.Judged.{repeat_of, built_in_order, uses_of_synonym, demands_of, tables_of, breaches_from}
 use Rattle.hdc_regular.specs.Model.{declared_wrong, all_wrong}
-use Rattle.hdc_regular.specs.Passes.{kind_of, summary_of, no_summary, summary_at, is_synonym_kind, synonym_flags, numbers_used, summary_needs, uses_where, synonym_uses, uses_demanded, demand_set, demands_set, kind_wrong, summary_wrong, summaries_wrong, IsFoundIn}
+use Rattle.hdc_regular.specs.Passes.{kind_of, summary_of, summary_at, is_synonym_kind, synonym_flags, numbers_used, summary_needs, synonym_uses, demands_set, summary_wrong, summaries_wrong, IsFoundIn}
 use Rattle.hdc_regular.proofs.UsesFound.{listed, found_in_each}
 use Rattle.hdc_regular.proofs.Steps.{size_texts}
 use Rattle.hdc_regular.proofs.BelowCount.{closed_texts}
@@ -97,7 +94,7 @@ module _ (es : List Declaration) (numbers : List ℕ) where
 
   demands_whole : (order : List ℕ) → demands_set ss flags numbers order (repeat_of no_demand (length ss)) ≡ demands_of es numbers order
   demands_whole order =
-      ap (λ z. demands_set ss flags numbers order (repeat_of no_demand z)) (length-map summary_of es)
+      ap (λ z. demands_set ss flags numbers order (repeat_of no_demand z)) (length-map es summary_of)
       ∙ demands_same order (repeat_of no_demand (length es))
 
   module _ (demands : List Demand) where
@@ -148,7 +145,7 @@ module _ (ps ts : List Top) (sounds : List Bool) (order : List ℕ) (size : ℕ)
   needs_size needs e =
       ap length (e ∙ ap summary_needs summed)
       ∙ ap length (needs_summed (built_by outlines ps ts sounds))
-      ∙ length-map (λ d. each_types_in (body_of d)) (built_by outlines ps ts sounds)
+      ∙ length-map (built_by outlines ps ts sounds) (λ d. each_types_in (body_of d))
       ∙ size_texts outlines ps ts sounds
       ∙ sym sized
 

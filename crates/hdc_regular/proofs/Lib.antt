@@ -30,3 +30,4 @@ pub mod AllFound
 pub mod Steps
 pub mod BelowCount
 pub mod FoundInTexts
+pub mod FirstIrregular

@@ -1,6 +1,5 @@
 -- Passes over declarations, step by step.
-use Rattle.std.proofs.Common.{◌≡◌, ◌⊎◌, inl, inr, ℕ, zero, suc, ◌+◌, ◌-◌, ◌<◌, ◌≤◌, Bool, true, false, List, [], ◌∷◌, ◌++◌, map, length, length-append, get_or, drop, refl, sym, ap, subst, ◌∙◌, arith, add-one, drop-cons, append_assoc, append-nil}
-use Rattle.std.proofs.lemmas.Bool.{cases_lt}
+use Rattle.std.proofs.Common.{◌≡◌, ℕ, zero, suc, ◌+◌, ◌-◌, ◌<◌, ◌≤◌, Bool, true, false, List, [], ◌∷◌, ◌++◌, map, length, length-append, get_or, drop, refl, sym, ap, subst, ◌∙◌, arith, add-one, drop-cons, append_assoc, append-nil}
 use Rattle.std.proofs.lemmas.List.{set_past, get_or_append_left, get_or-append-add}
 use Rattle.std.proofs.Math.ListN.{drop_of_length-le}
 use Rattle.std.specs.Prelude.{slice_set, slice_index, EachIndex}
@@ -22,16 +21,14 @@ use Rattle.hdc_synonyms.specs.Synonyms.{synonym_needs}
 use Rattle.hdc_synonyms.proofs.Adding.{size_tops_behind}
 use Rattle.hdc_regular.specs.declared.standing.Standing.{Standing}
 use Rattle.hdc_regular.specs.declared.outline.Outline.{Outline}
-use Rattle.hdc_regular.specs.declared.node_order.Synonyms.{Synonyms}
 use Rattle.hdc_regular.specs.declared.texts.Texts.{Texts}
-use Rattle.hdc_regular.specs.declared.summary.Body.{Body}
 use Rattle.hdc_regular.specs.Resolved.{Declaration, neither, declaration_at}
 use Rattle.hdc_regular.specs.Irregular.{names_before, names_of}
 use Rattle.hdc_regular.specs.Built.{built_declaration, each_built_declaration, built_by}
 use Rattle.hdc_regular.specs.Judged.{repeat_of}
 use Rattle.hdc_regular.specs.Laws.{AreRanked}
 use Rattle.hdc_regular.specs.Known.{AreKnown}
-use Rattle.hdc_regular.specs.Passes.{kind_of, top_kind, IsBody, before_of, text_of, AreTexts, built_texts, summary_of, summary_wrong, summaries_wrong}
+use Rattle.hdc_regular.specs.Passes.{kind_of, top_kind, before_of, text_of, AreTexts, built_texts, summary_of, summary_wrong, summaries_wrong}
 use Rattle.hdc_regular.proofs.Whole.{size_built}
 
 -- nothing is set behind the last one

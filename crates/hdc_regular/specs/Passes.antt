@@ -24,9 +24,9 @@ use Rattle.hdc_regular.specs.Irregular.{names_before, names_of}
 use Rattle.hdc_regular.specs.Built.{built_by}
 use Rattle.hdc_regular.specs.Contents.{each_uses_in}
 use Rattle.hdc_regular.specs.Walk.{is_in_group}
-use Rattle.hdc_regular.specs.Demands.{no_demand, demand_at, by_own, demanded, demands_by}
+use Rattle.hdc_regular.specs.Demands.{no_demand, demand_at, by_own, demanded}
 use Rattle.hdc_regular.specs.Judging.{uses_wrong}
-use Rattle.hdc_regular.specs.Judged.{repeat_of, built_in_order, breaches_from}
+use Rattle.hdc_regular.specs.Judged.{built_in_order, breaches_from}
 
 -- ---- texts
 

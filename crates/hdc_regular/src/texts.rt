@@ -1,6 +1,6 @@
 //! A text and the prelude before it.
 
-ghost use Rattle.std.specs.Prelude.{◌≡◌, ◌<◌, ◌≤◌, ◌+◌, ◌^◌, [], length, List, Bool, IfOk};
+ghost use Rattle.std.specs.Prelude.{◌≡◌, ◌<◌, ◌≤◌, ◌+◌, ◌^◌, [], length, IfOk};
 ghost use Rattle.hdc_written.specs.Mirror as mirror;
 ghost use Rattle.hdc_regular.specs.Irregular.{sounds_of};
 ghost use Rattle.hdc_regular.specs.Passes as spec;
@@ -41,7 +41,7 @@ pub(crate) fn prelude_alone<'t>(
     ensures texts { IfOk result (λ texts. spec.AreTexts texts) }
     ensures before { IfOk result (λ texts. spec.before_of texts ≡ []) }
     ensures text { IfOk result (λ texts. spec.text_of texts ≡ mirror.tops_of prelude.now) }
-    ensures sounds { (before : List Bool) → IfOk result (λ texts. texts.sounds ≡ sounds_of [] (mirror.tops_of prelude.now) before cyclic.now) }
+    ensures sounds { IfOk result (λ texts. texts.sounds ≡ sounds_of [] (mirror.tops_of prelude.now) [] cyclic.now) }
 {
     let types = types_in_prelude(alloc, prelude)?;
     let mut sounds = Items::new(alloc);
