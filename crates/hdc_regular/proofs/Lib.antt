@@ -27,3 +27,7 @@ pub mod Sound
 pub mod Wants
 pub mod UsesFound
 pub mod AllFound
+pub mod Steps
+pub mod BelowCount
+pub mod FoundInTexts
+pub mod FirstIrregular

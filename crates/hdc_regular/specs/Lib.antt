@@ -17,3 +17,5 @@ pub mod Order
 pub mod Judged
 pub mod Judging
 pub mod Laws
+pub mod Passes
+pub mod Known

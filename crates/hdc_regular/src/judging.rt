@@ -45,8 +45,8 @@ fn note_use(
     }
 }
 
-// Whether a declaration is in the group with this number.
-fn is_in_group(numbers: &[usize], group: usize, number: u32) -> bool
+/// Whether a declaration is in the group with this number.
+pub(crate) fn is_in_group(numbers: &[usize], group: usize, number: u32) -> bool
     ensures { result ≡ walk.is_in_group numbers.now group number }
 {
     match numbers.get(number as usize) {
