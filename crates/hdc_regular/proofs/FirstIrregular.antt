@@ -63,7 +63,7 @@ first_in_program ps ts before text known_before known t cyclic_before cyclic ord
     let same : t.sounds ≡ sounds_of ps ts before.components.cyclic text.components.cyclic = e ∙ ap (λ z. sounds_of ps ts z cyclic) cb ∙ ap (sounds_of ps ts before.components.cyclic) c in
     if_ok (λ found. IsFoundIn (before_of t) (text_of t) t.sounds order found) (λ found. IsFirst (IsIrregular ps ts) found.breach) r
     (λ found g.
-      first_whole ps ts before.components.cyclic text.components.cyclic known_before.cyclic known.cyclic before.components.numbers text.components.numbers known_before.ranked known.ranked before.groups text.groups known_before.groups known.groups (before_of t) (text_of t) t.sounds order found a b same f g)
+    first_whole ps ts before.components.cyclic text.components.cyclic known_before.cyclic known.cyclic before.components.numbers text.components.numbers known_before.ranked known.ranked before.groups text.groups known_before.groups known.groups (before_of t) (text_of t) t.sounds order found a b same f g)
     h
 
 -- ---- a prelude alone
@@ -98,5 +98,5 @@ first_in_prelude ts text known t cyclic order r a b c e f h =
     let same : t.sounds ≡ sounds_of [] ts [] text.components.cyclic = e ∙ ap (sounds_of [] ts []) c in
     if_ok (λ found. IsFoundIn (before_of t) (text_of t) t.sounds order found) (λ found. IsFirst (IsIrregular [] ts) found.breach) r
     (λ found g.
-      first_whole [] ts [] text.components.cyclic none_cyclic known.cyclic [] text.components.numbers none_ranked known.ranked [] text.groups none_grouped known.groups (before_of t) (text_of t) t.sounds order found a b same f g)
+    first_whole [] ts [] text.components.cyclic none_cyclic known.cyclic [] text.components.numbers none_ranked known.ranked [] text.groups none_grouped known.groups (before_of t) (text_of t) t.sounds order found a b same f g)
     h

@@ -156,11 +156,11 @@ module _ (ps ts : List Top) (sounds : List Bool) (order : List ℕ) (size : ℕ)
     numbers = numbers;
     numbering = subst (λ z. IsNumbering z numbers) (e ∙ needs_whole) numbering;
     noted =
-      noted
-      ∙ ap (λ z. all_noted f (summaries_wrong synonyms z numbers from (drop from ss))) asked
-      ∙ ap (λ z. all_noted f (summaries_wrong z (demands_set ss z numbers order (repeat_of no_demand (length ss))) numbers from (drop from ss))) flagged
-      ∙ ap (λ z. all_noted f (summaries_wrong (synonym_flags z) (demands_set z (synonym_flags z) numbers order (repeat_of no_demand (length z))) numbers from (drop from z))) summed_whole
-      ∙ ap (all_noted f) (breaches_same es numbers order from)
-      ∙ ap (λ z. all_noted z (breaches_from from es numbers order)) nothing
-      ∙ ap (λ z. all_noted nothing_found (breaches_from z es numbers order)) start;
+        noted
+        ∙ ap (λ z. all_noted f (summaries_wrong synonyms z numbers from (drop from ss))) asked
+        ∙ ap (λ z. all_noted f (summaries_wrong z (demands_set ss z numbers order (repeat_of no_demand (length ss))) numbers from (drop from ss))) flagged
+        ∙ ap (λ z. all_noted f (summaries_wrong (synonym_flags z) (demands_set z (synonym_flags z) numbers order (repeat_of no_demand (length z))) numbers from (drop from z))) summed_whole
+        ∙ ap (all_noted f) (breaches_same es numbers order from)
+        ∙ ap (λ z. all_noted z (breaches_from from es numbers order)) nothing
+        ∙ ap (λ z. all_noted nothing_found (breaches_from z es numbers order)) start;
   }

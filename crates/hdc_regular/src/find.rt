@@ -36,11 +36,7 @@ pub fn find_in_prelude(alloc: Global, prelude: &Tree) -> Result<Found, AllocErro
 /// # Errors
 ///
 /// `AllocError` where memory is short.
-pub fn find_in_program(
-    alloc: Global,
-    prelude: &Tree,
-    program: &Tree,
-) -> Result<Found, AllocError>
+pub fn find_in_program(alloc: Global, prelude: &Tree, program: &Tree) -> Result<Found, AllocError>
     ensures { IfOk result (λ found. IsFirst (IsIrregular (mirror.tops_of prelude.now) (mirror.tops_of program.now)) found.breach) }
 {
     let before = known_synonyms(alloc, prelude)?;

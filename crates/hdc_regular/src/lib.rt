@@ -6,8 +6,7 @@
 //! arguments that are held (`specs/Building.antt`), the groups are components of a graph in which synonyms are nodes, and
 //! each synonym asks of its arguments what the uses in its meaning need (`specs/Demands.antt`).
 //!
-//! The functions that build, collect, ask and judge are here, each with its exact result; the passes over all declarations
-//! that join them, and the public search, are not written yet.
+//! `find_in_prelude` and `find_in_program` are that search: each answers the first place where the rule is broken.
 #![tactic(auto)]
 
 mod bodies;

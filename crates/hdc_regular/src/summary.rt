@@ -205,10 +205,7 @@ fn summary_at(
 
 /// Which declarations are synonyms.
 #[tactic(auto, using(crate::proofs::Collecting::in_order))]
-pub(crate) fn synonym_flags(
-    alloc: Global,
-    summaries: &[Summary],
-) -> Result<Items<bool>, AllocError>
+pub(crate) fn synonym_flags(alloc: Global, summaries: &[Summary]) -> Result<Items<bool>, AllocError>
     ensures { IfOk result (λ flags. flags ≡ spec.synonym_flags summaries.now) }
 {
     let mut flags = Items::new(alloc);
