@@ -29,7 +29,7 @@ use Rattle.hdc_regular.specs.Judged.{repeat_of}
 use Rattle.hdc_regular.specs.Laws.{AreRanked}
 use Rattle.hdc_regular.specs.Known.{AreKnown}
 use Rattle.hdc_regular.specs.Passes.{kind_of, top_kind, before_of, text_of, AreTexts, built_texts, summary_of, summary_wrong, summaries_wrong}
-use Rattle.hdc_regular.proofs.Whole.{size_built}
+use Rattle.hdc_regular.proofs.Whole.{built_each, size_built}
 
 -- nothing is set behind the last one
 pub nothing_set : {A : Type 0} (xs : List A) (n : ℕ) (x : A) → length xs ≤ n → slice_set xs n x ≡ xs
@@ -89,12 +89,6 @@ kind_built outlines names sound top.Empty = refl
 kind_built outlines names sound (top.Fixity f) = refl
 kind_built outlines names sound (top.Signature x xs a t) = refl
 kind_built outlines names sound (top.Equation h r) = refl
-
-built_each : (outlines : List Outline) (names : List (Binding Standing)) (sounds : List Bool) (n : ℕ) (ts : List Top) (i : ℕ)
-    → declaration_at (each_built_declaration outlines names sounds n ts) i ≡ built_declaration outlines names (get_or sounds (n + i) false) (get_or ts i top.Empty)
-built_each outlines names sounds n [] i = refl
-built_each outlines names sounds n (t ∷ ts) zero = let e : n ≡ n + 0 = omega arith in ap (λ z. built_declaration outlines names (get_or sounds z false) t) e
-built_each outlines names sounds n (t ∷ ts) (suc i) = let e : suc n + i ≡ n + suc i = omega arith in built_each outlines names sounds (suc n) ts i ∙ ap (λ z. built_declaration outlines names (get_or sounds z false) (get_or ts i top.Empty)) e
 
 built_before : (outlines : List Outline) (ps ts : List Top) (sounds : List Bool) (n : ℕ) → n < length ps
     → declaration_at (built_by outlines ps ts sounds) n ≡ built_declaration outlines (names_before ps sounds) (get_or sounds n false) (get_or ps n top.Empty)

@@ -135,7 +135,7 @@ module _ (s : ℕ → Bool) (M : ℕ → Resolved) (outlines : List Outline) (na
 
 -- ---- declarations by their numbers
 
-built_each : (outlines : List Outline) (names : List (Binding Standing)) (sounds : List Bool) (n : ℕ) (ts : List Top) (i : ℕ)
+pub built_each : (outlines : List Outline) (names : List (Binding Standing)) (sounds : List Bool) (n : ℕ) (ts : List Top) (i : ℕ)
     → declaration_at (each_built_declaration outlines names sounds n ts) i ≡ built_declaration outlines names (get_or sounds (n + i) false) (get_or ts i top.Empty)
 built_each outlines names sounds n [] i = refl
 built_each outlines names sounds n (t ∷ ts) zero = let e : n ≡ n + 0 = omega arith in ap (λ z. built_declaration outlines names (get_or sounds z false) t) e

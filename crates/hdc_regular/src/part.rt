@@ -13,14 +13,3 @@ pub(crate) enum Part {
     /// A type of another kind, and its parts.
     Other(Items<Part>),
 }
-
-/// What is declared, with its types.
-#[derive(Drop)]
-pub(crate) enum Declared {
-    /// A data type with so many parameters, and its fields.
-    DataType(usize, Items<Part>),
-    /// A synonym that breaks no rule, and its meaning.
-    Synonym(Part),
-    /// Any other, which nothing names.
-    Neither,
-}
