@@ -3,6 +3,7 @@ use Rattle.std.proofs.Common.{◌≡◌, ◌⊎◌, inl, inr, ℕ, zero, suc, �
 use Rattle.std.specs.List.{slice_get}
 use Rattle.std.proofs.lemmas.Bool.{cases_lt, cases_order, eqb-true, eq-eqb, ltb-true, ltb-false}
 use Rattle.hdc_base.specs.declared.place.At.{At}
+use Rattle.hdc_written.specs.Breaches.{IsBefore}
 use Rattle.hdc_names.specs.declared.chain.NextOperand.{NextOperand}
 use Rattle.hdc_names.specs.declared.chain.Progress.{Progress}
 use Rattle.hdc_names.specs.declared.chain.Step.{Step}
@@ -10,7 +11,7 @@ use Rattle.hdc_names.specs.declared.chain.Step.TheVariants as step
 use Rattle.hdc_names.specs.OperatorTrees.{leaf, binary, negated}
 use Rattle.hdc_names.specs.Chain.{Tree, IsTreeOf, IsBuilt, HasNoTree, steps_of, pieces, start, rest_read, read, read_out}
 use Rattle.hdc_names.specs.Sites.{Site, whole, rooted, node}
-use Rattle.hdc_names.specs.Trees.{IsRoot, HasTree, IsAtFault, IsOneOf, EachHasTree, IsBefore, FirstFault, place_in, place_of, is_operator, ends_with, whole_fault, root_fault, fault_of, is_before, noted, deep_of, all_noted, too_deep, NoneTooDeep, FirstTooDeep}
+use Rattle.hdc_names.specs.Trees.{IsRoot, HasTree, IsAtFault, IsOneOf, EachHasTree, FirstFault, place_in, place_of, is_operator, ends_with, whole_fault, root_fault, fault_of, is_before, noted, deep_of, all_noted, too_deep, NoneTooDeep, FirstTooDeep}
 use Rattle.hdc_names.proofs.Grouping.{one_tree}
 use Rattle.hdc_names.proofs.Building.{Answered, started, no_tree}
 

@@ -3,6 +3,7 @@
 use Rattle.std.specs.Prelude.{◌≡◌, ◌⊎◌, ◌<◌, ℕ, zero, suc, ◌-◌, Bool, false, ◌&&◌, ◌||◌, ◌==◌, nat_lt, List, [], ◌∷◌, length, slice_get, Option, Some, None, Result, Ok, Err, if◌then◌else◌}
 use Rattle.hdc_base.specs.declared.place.At.{At}
 use Rattle.hdc_tree.specs.declared.program.Top.{Top}
+use Rattle.hdc_written.specs.Breaches.{IsBefore}
 use Rattle.hdc_names.specs.declared.chain.NextOperand.{NextOperand}
 use Rattle.hdc_names.specs.declared.chain.Step.{Step}
 use Rattle.hdc_names.specs.declared.chain.Step.TheVariants as step
@@ -46,10 +47,6 @@ IsOneOf s (x ∷ xs) = (s ≡ x) ⊎ IsOneOf s xs
 
 abbrev pub EachHasTree : List Site → Type 0
 EachHasTree sites = (s : Site) → IsOneOf s sites → HasTree s
-
--- a place is before another in a text
-abbrev pub IsBefore : At → At → Type 0
-IsBefore p q = (p.line < q.line) ⊎ ((p.line ≡ q.line) × (p.col < q.col))
 
 -- the least place where one is at fault
 pub record FirstFault (sites : List Site) (at : At) : Type 0 where

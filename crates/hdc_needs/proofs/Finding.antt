@@ -13,7 +13,8 @@ use Rattle.hdc_written.proofs.FirstBreach.{first_of_same, first_of_list}
 use Rattle.hdc_needs.specs.Agrees.{HasFound}
 use Rattle.hdc_needs.specs.Binders.{mentions, bound_from}
 use Rattle.hdc_needs.specs.Ends.{logged_all, logged_declarations, ended, all_ended}
-use Rattle.hdc_needs.specs.Free.{names_text, free_declaration}
+use Rattle.hdc_written.specs.Scopes.{names_text}
+use Rattle.hdc_needs.specs.Free.{free_declaration}
 use Rattle.hdc_needs.specs.Needy.{meets, binders, block_needs, NeedsItself, IsIn, text_blocks, IsNeedy}
 use Rattle.hdc_needs.specs.Uses.{Mentions, UsesOf, Breaks, OneBreaks}
 use Rattle.hdc_needs.specs.Walk.{Mention, logged}

@@ -1,7 +1,7 @@
 -- What the code keeps stays as it is to be, whatever event comes.
 use Rattle.std.proofs.Common.{◌≡◌, ℕ, zero, suc, ◌+◌, ◌-◌, ◌<◌, ◌≤◌, Bool, true, false, List, [], ◌∷◌, ◌++◌, length, drop, get_or, set, Option, Some, None, if◌then◌else◌, refl, sym, ap, ◌∙◌, subst, arith, length-append, length-set}
 use Rattle.hdc_tree.specs.declared.name.Name.{Name}
-use Rattle.hdc_written.specs.Scopes.{standing_for}
+use Rattle.hdc_written.specs.Scopes.{standing_for, names_text}
 use Rattle.hdc_written.specs.Written.{Declarations, all_bound}
 use Rattle.hdc_written.proofs.Scoping.{bound_joined, left_bound}
 use Rattle.hdc_written.proofs.Binding.{left_again}
@@ -13,7 +13,6 @@ use Rattle.hdc_needs.specs.Agrees.{IsGraph, IsOpen, located, OverPatterns, OverB
 use Rattle.hdc_needs.specs.Bind.{Targets}
 use Rattle.hdc_needs.specs.Binders.{bound_from}
 use Rattle.hdc_needs.specs.Frames.{needing_by, needing, beginning, going_behind, frame_needing, frame_beginning, frame_going_behind, no_frame}
-use Rattle.hdc_needs.specs.Free.{names_text}
 use Rattle.hdc_needs.specs.Walk.{Mention, Frame, patterns, local, count_declarations, logged, use_name}
 use Rattle.hdc_needs.proofs.Graphs.{used_more}
 use Rattle.hdc_needs.proofs.Linking.{within_is}

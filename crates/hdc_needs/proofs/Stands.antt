@@ -3,10 +3,9 @@ use Rattle.std.proofs.Common.{◌≡◌, ℕ, suc, ◌+◌, ◌<◌, ◌⊎◌, 
 use Rattle.std.specs.Str.{bytes_eq}
 use Rattle.std.proofs.lemmas.Slice.Eq.{bytes_eq-Decides}
 use Rattle.hdc_tree.specs.declared.name.Name.{Name}
-use Rattle.hdc_written.specs.Scopes.{Binding, standing_for, bound_to}
+use Rattle.hdc_written.specs.Scopes.{Binding, standing_for, bound_to, names_text}
 use Rattle.hdc_written.specs.Written.{Declarations, no_declaration, declaration, bound, all_bound}
 use Rattle.hdc_needs.specs.Binders.{mentions, bound_from}
-use Rattle.hdc_needs.specs.Free.{names_text}
 use Rattle.hdc_needs.specs.Uses.{Mentions}
 use Rattle.hdc_needs.specs.Walk.{Mention, count_declarations}
 use Rattle.hdc_needs.proofs.Graphs.{mentions_front, mentions_back, mentions_either}

@@ -11,7 +11,8 @@ use Rattle.hdc_written.specs.Written.{Pattern, named, named_as, anything, built,
 use Rattle.hdc_written.specs.Written.{variables, all_variables, Expression, chain, Links, no_link, link, Operand, variable, constructor, literal, unit, nil, cons, in_parentheses, tuple, list, range, comprehension, left_section, right_section, applied, lambda, let_in, if_else, case_of, Operands, no_operand, operand, Expressions, no_expression, expression, generator, condition, let_qualifier, Qualifiers, no_qualifier, qualifier, Alternative, blank, alternative, Alternatives, no_alternative, next_alternative, RightSide, plain, guarded, Guards, no_guard, guard, Declaration, empty, signature, equation, binding, Declarations, no_declaration, declaration, all_bound}
 use Rattle.hdc_written.specs.Mirror.{head_patterns, rhs_of}
 use Rattle.hdc_written.specs.Events.{Event, used, generated, opened, block, declaring, body, closed, each_introduced, matches, each_matches, operator_events, closings, expression_events, link_events, operand_events, each_operand_events, each_expression_events, openings, alternative_events, each_alternative_events, right_side_events, guard_events, declaration_events, each_declaration_events}
-use Rattle.hdc_needs.specs.Free.{names_text, without, operator_name, free_expression, free_links, free_operand, free_operands, free_expressions, free_behind, free_alternative, free_alternatives, free_right_side, free_guards, free_declaration, free_declarations}
+use Rattle.hdc_written.specs.Scopes.{names_text}
+use Rattle.hdc_needs.specs.Free.{without, operator_name, free_expression, free_links, free_operand, free_operands, free_expressions, free_behind, free_alternative, free_alternatives, free_right_side, free_guards, free_declaration, free_declarations}
 use Rattle.hdc_needs.specs.Blocks.{expression_blocks, link_blocks, operand_blocks, each_operand_blocks, each_expression_blocks, blocks_behind, alternative_blocks, each_alternative_blocks, right_side_blocks, guard_blocks, declaration_blocks, each_declaration_blocks}
 use Rattle.hdc_needs.specs.Walk.{Mention, Frame, patterns, local, Ended, State, lost, going, count_declarations, logged, use_name, step, run, run_tops}
 use Rattle.hdc_needs.specs.Ends.{logged_all, logged_declarations, ended, all_ended}

@@ -2,7 +2,8 @@
 use Rattle.std.specs.Prelude.{ℕ, suc, List, [], ◌∷◌, map, Option, Some, if◌then◌else◌}
 use Rattle.hdc_tree.specs.declared.name.Name.{Name}
 use Rattle.hdc_written.specs.Written.{Declarations, no_declaration, declaration, all_bound}
-use Rattle.hdc_needs.specs.Free.{names_text, free_declaration}
+use Rattle.hdc_written.specs.Scopes.{names_text}
+use Rattle.hdc_needs.specs.Free.{free_declaration}
 use Rattle.hdc_needs.specs.Walk.{Mention, Ended, logged}
 
 -- names are used, those of a block that binds these

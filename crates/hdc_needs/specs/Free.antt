@@ -1,16 +1,11 @@
 -- The names that a part of a program uses and does not bind itself.
-use Rattle.std.specs.Prelude.{ℕ, Bool, false, ◌||◌, List, [], ◌∷◌, ◌++◌, if◌then◌else◌}
-use Rattle.std.specs.Str.{bytes_eq}
+use Rattle.std.specs.Prelude.{List, [], ◌∷◌, ◌++◌, if◌then◌else◌}
 use Rattle.hdc_tree.specs.declared.name.Name.{Name}
 use Rattle.hdc_tree.specs.declared.name.Op.{Op}
 use Rattle.hdc_tree.specs.declared.name.Op.TheVariants as op
 use Rattle.hdc_written.specs.Written.{variables, all_variables, Expression, chain, Links, no_link, link, Operand, variable, constructor, literal, unit, nil, cons, in_parentheses, tuple, list, range, comprehension, left_section, right_section, applied, lambda, let_in, if_else, case_of, Operands, no_operand, operand, Expressions, no_expression, expression, generator, condition, let_qualifier, Qualifiers, no_qualifier, qualifier, Alternative, blank, alternative, Alternatives, no_alternative, next_alternative, RightSide, plain, guarded, Guards, no_guard, guard, Declaration, empty, signature, equation, binding, Declarations, no_declaration, declaration, all_bound}
 use Rattle.hdc_written.specs.Mirror.{var_name, op_name}
-
--- whether a text is that of one of these names
-abbrev pub names_text : List Name → List ℕ → Bool
-names_text [] t = false
-names_text (x ∷ xs) t = bytes_eq t x.text || names_text xs t
+use Rattle.hdc_written.specs.Scopes.{names_text}
 
 -- names that are bound go
 abbrev pub without : List Name → List Name → List Name

@@ -9,7 +9,8 @@ use Rattle.hdc_written.specs.declared.breach.Breach.{Breach}
 use Rattle.hdc_written.specs.Firsts.{first_of_pattern}
 use Rattle.hdc_written.specs.Written.{no_pattern, pattern, Declaration, empty, signature, equation, binding, Declarations, no_declaration, declaration, bound}
 use Rattle.hdc_written.specs.Mirror.{rhs_of}
-use Rattle.hdc_needs.specs.Free.{names_text, free_declaration}
+use Rattle.hdc_written.specs.Scopes.{names_text}
+use Rattle.hdc_needs.specs.Free.{free_declaration}
 use Rattle.hdc_needs.specs.Blocks.{right_side_blocks}
 
 -- whether one of the names is among the others

@@ -6,7 +6,7 @@ use Rattle.hdc_tree.specs.declared.program.Top.TheVariants as top
 use Rattle.hdc_written.specs.Written.{Declarations, no_declaration, declaration, all_bound}
 use Rattle.hdc_written.specs.Mirror.{head_patterns, rhs_of}
 use Rattle.hdc_written.specs.Events.{Event, used, constructed, matched, ranged, generated, opened, introduced, block, declaring, body, closed, equation_events}
-use Rattle.hdc_needs.specs.Free.{names_text}
+use Rattle.hdc_written.specs.Scopes.{names_text}
 
 -- a name that a declaration, by its number in its block, uses or binds
 pub record Mention : Type 0 where

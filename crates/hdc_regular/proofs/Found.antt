@@ -20,7 +20,8 @@ use Rattle.hdc_regular.specs.Building.{outline_at, no_outline}
 use Rattle.hdc_regular.specs.Built.{each_built_declaration}
 use Rattle.hdc_regular.specs.Outlines.{outlines_by}
 use Rattle.hdc_regular.specs.Demands.{no_demand, demand_at, met, demanded}
-use Rattle.hdc_regular.specs.Order.{IsOrder, AllBelow}
+use Rattle.hdc_synonyms.specs.Adding.{AllBelow}
+use Rattle.hdc_regular.specs.Order.{IsOrder}
 use Rattle.hdc_regular.specs.Judged.{repeat_of, built_in_order, uses_of_synonym, demands_of, tables_of, breaches_from}
 use Rattle.hdc_regular.proofs.Groups.{UsesOf, each_types_in_have, needs_named}
 use Rattle.hdc_regular.proofs.BuiltTypes.{IsOutline}

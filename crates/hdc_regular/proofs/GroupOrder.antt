@@ -5,7 +5,8 @@ use Rattle.std.proofs.lemmas.Bool.{cases_lt}
 use Rattle.hdc_graph.specs.Lists.{Has}
 use Rattle.hdc_graph.specs.Needs.{Nodes, Needs, Reaches, one, further, AreMutual}
 use Rattle.hdc_graph.specs.Groups.{group_at, AreGroups}
-use Rattle.hdc_regular.specs.Order.{IsOrder, AllBelow, shifted_by, group_order}
+use Rattle.hdc_synonyms.specs.Adding.{AllBelow}
+use Rattle.hdc_regular.specs.Order.{IsOrder, shifted_by, group_order}
 
 -- ---- orders one behind another
 

@@ -5,7 +5,8 @@ use Rattle.std.proofs.lemmas.Bool.{cases_lt}
 use Rattle.hdc_graph.specs.Lists.{Has}
 use Rattle.hdc_regular.specs.declared.contents.Usage.{Usage}
 use Rattle.hdc_regular.specs.declared.demand.Demand.{Demand}
-use Rattle.hdc_regular.specs.Order.{IsOrder, AllBelow}
+use Rattle.hdc_synonyms.specs.Adding.{AllBelow}
+use Rattle.hdc_regular.specs.Order.{IsOrder}
 use Rattle.hdc_regular.specs.Demands.{no_demand, demand_at, by_own, by_use, demanded, demands_by}
 
 -- two numbers are one, or not

@@ -13,7 +13,8 @@ use Rattle.hdc_regular.specs.Irregular.{declarations_by}
 use Rattle.hdc_regular.specs.Building.{outline_at, no_outline}
 use Rattle.hdc_regular.specs.Built.{built_by}
 use Rattle.hdc_regular.specs.Outlines.{outline_of, outlines_by}
-use Rattle.hdc_regular.specs.Order.{IsOrder, AllBelow}
+use Rattle.hdc_synonyms.specs.Adding.{AllBelow}
+use Rattle.hdc_regular.specs.Order.{IsOrder}
 use Rattle.hdc_regular.proofs.Groups.{UsesOf, each_types_in_have, needs_named}
 use Rattle.hdc_regular.proofs.BuiltTypes.{IsOutline}
 use Rattle.hdc_regular.proofs.Whole.{outline_right}

@@ -12,7 +12,8 @@ use Rattle.hdc_regular.specs.Resolved.{Has, Declaration, declaration_at, meaning
 use Rattle.hdc_regular.specs.Expansion.{synonyms_of}
 use Rattle.hdc_regular.specs.Named.{body_of, named_needs, NamesSynonym}
 use Rattle.hdc_regular.specs.Irregular.{declarations_by}
-use Rattle.hdc_regular.specs.Order.{IsOrder, AllBelow, group_order}
+use Rattle.hdc_synonyms.specs.Adding.{AllBelow}
+use Rattle.hdc_regular.specs.Order.{IsOrder, group_order}
 use Rattle.hdc_regular.proofs.Groups.{UsesOf, of_each_types_in, needs_named}
 use Rattle.hdc_regular.proofs.Ranks.{needs_before, needs_text, sound_before, sound_text, in_text}
 use Rattle.hdc_regular.proofs.Reduced.{of_meaning}

@@ -1,15 +1,10 @@
 -- Orders in which each comes behind those that it names.
-use Rattle.std.specs.Prelude.{◌≡◌, ℕ, ◌+◌, ◌<◌, ◌⊎◌, List, [], ◌∷◌, ◌++◌}
+use Rattle.std.specs.Prelude.{◌≡◌, ℕ, ◌+◌, ◌⊎◌, List, [], ◌∷◌, ◌++◌}
 
 -- each of these comes behind those that it names, where some come before all of them
 abbrev pub IsOrder : (ℕ → ℕ → Type 0) → (ℕ → Type 0) → List ℕ → Type 0
 IsOrder Names Before [] = Unit {0}
 IsOrder Names Before (n ∷ ns) = ((b : ℕ) → Names n b → Before b) × IsOrder Names (λ x. Before x ⊎ (n ≡ x)) ns
-
--- each number is below a limit
-abbrev pub AllBelow : ℕ → List ℕ → Type 0
-AllBelow limit [] = Unit {0}
-AllBelow limit (n ∷ ns) = (n < limit) × AllBelow limit ns
 
 -- numbers behind these
 abbrev pub shifted_by : ℕ → List ℕ → List ℕ

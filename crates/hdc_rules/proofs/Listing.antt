@@ -4,10 +4,9 @@ use Rattle.std.specs.Borrow.{Bor}
 use Rattle.std.specs.Str.{bytes_eq}
 use Rattle.hdc_base.specs.declared.place.At.{At}
 use Rattle.hdc_tree.specs.declared.name.Name.{Name}
-use Rattle.hdc_written.specs.Scopes.{Binding, standing_for}
+use Rattle.hdc_written.specs.Scopes.{Binding, standing_for, names_text}
 use Rattle.hdc_written.specs.WrittenTypes.{WrittenType}
 use Rattle.hdc_written.specs.TypeMirror.{each_type}
-use Rattle.hdc_rules.specs.Names.{names_text}
 use Rattle.hdc_rules.specs.Types.{count_types}
 
 -- one more name at the end

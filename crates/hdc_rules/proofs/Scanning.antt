@@ -10,7 +10,7 @@ use Rattle.hdc_tree.specs.declared.program.Top.TheVariants as top
 use Rattle.hdc_written.specs.declared.breach.Breach.{Breach}
 use Rattle.hdc_written.specs.declared.breach.Found.{Found}
 use Rattle.hdc_written.specs.Breaches.{all_noted}
-use Rattle.hdc_written.specs.Scopes.{standing_for}
+use Rattle.hdc_written.specs.Scopes.{standing_for, names_text}
 use Rattle.hdc_written.specs.Written.{Pattern, named, named_as, anything, built, literal_pattern, negative_pattern, unit_pattern, nil_pattern, pattern_in_parentheses, tuple_pattern, list_pattern, cons_pattern, Patterns, no_pattern, pattern}
 use Rattle.hdc_written.specs.Written.{variables, all_variables, count_patterns, Expression, chain, Links, no_link, link, Operand, variable, constructor, literal, unit, nil, cons, in_parentheses, tuple, list, range, comprehension, left_section, right_section, applied, lambda, let_in, if_else, case_of, Operands, no_operand, operand, Expressions, no_expression, expression, Qualifier, generator, condition, let_qualifier, Qualifiers, no_qualifier, qualifier, Alternative, blank, alternative, Alternatives, no_alternative, next_alternative, RightSide, plain, guarded, Guards, no_guard, guard, Declaration, empty, signature, equation, binding, Declarations, no_declaration, declaration, all_bound}
 use Rattle.hdc_written.specs.Mirror.{head_patterns, rhs_of}
@@ -20,7 +20,7 @@ use Rattle.hdc_written.proofs.Scoping.{left_bound}
 use Rattle.hdc_rules.specs.declared.known.Known.{Known}
 use Rattle.hdc_rules.specs.declared.scan.Scan.{Scan}
 use Rattle.hdc_rules.specs.Known.{Values, value, skeletons}
-use Rattle.hdc_rules.specs.Names.{where_so, names_text, unknown, unless_counted, is_skeleton}
+use Rattle.hdc_rules.specs.Names.{where_so, unknown, unless_counted, is_skeleton}
 use Rattle.hdc_rules.specs.Bindings.{block_breaches}
 use Rattle.hdc_rules.specs.Uses.{locally, bound_together, pattern_breaches, each_pattern_breaches, behind, all_behind, operator_breaches, expression_breaches, link_breaches, operand_breaches, each_operand_breaches, each_expression_breaches, qualifier_breaches, each_qualifier_breaches, alternative_breaches, each_alternative_breaches, right_side_breaches, guard_breaches, declaration_breaches, each_declaration_breaches, top_breaches, each_top_breaches}
 use Rattle.hdc_rules.specs.Scan.{note_all, left, run, run_top, run_tops}

@@ -1,11 +1,10 @@
 -- What is broken in a list of names.
-use Rattle.std.specs.Prelude.{ℕ, ◌==◌, Bool, true, false, ◌||◌, List, [], ◌∷◌, ◌++◌, Option, Some, None}
-use Rattle.std.specs.Str.{bytes_eq}
+use Rattle.std.specs.Prelude.{ℕ, ◌==◌, Bool, true, false, List, [], ◌∷◌, ◌++◌, Option, Some, None}
 use Rattle.hdc_base.specs.declared.place.At.{At}
 use Rattle.hdc_tree.specs.declared.name.Name.{Name}
 use Rattle.hdc_written.specs.declared.breach.Breach.{Breach}
 use Rattle.hdc_written.specs.Breaches.{breach}
-use Rattle.hdc_written.specs.Scopes.{standing_for}
+use Rattle.hdc_written.specs.Scopes.{standing_for, names_text}
 use Rattle.hdc_rules.specs.Known.{Values, skeletons}
 
 abbrev pub where_so : Bool → ℕ → At → List Breach
@@ -15,11 +14,6 @@ where_so false n at = []
 abbrev pub where_not : Bool → ℕ → At → List Breach
 where_not true n at = []
 where_not false n at = breach n at ∷ []
-
--- whether a text is that of one of these names
-abbrev pub names_text : List Name → List ℕ → Bool
-names_text [] t = false
-names_text (x ∷ xs) t = bytes_eq t x.text || names_text xs t
 
 -- a value that is used is known
 abbrev pub unless_known : Option (Unit {0}) → At → List Breach

@@ -8,13 +8,13 @@ use Rattle.hdc_tree.specs.declared.name.Op.TheVariants as op
 use Rattle.hdc_tree.specs.declared.program.Top.{Top}
 use Rattle.hdc_tree.specs.declared.program.Top.TheVariants as top
 use Rattle.hdc_written.specs.declared.breach.Breach.{Breach}
-use Rattle.hdc_written.specs.Scopes.{standing_for, bound_to}
+use Rattle.hdc_written.specs.Scopes.{standing_for, bound_to, names_text}
 use Rattle.hdc_written.specs.Written.{Pattern, named, named_as, anything, built, literal_pattern, negative_pattern, unit_pattern, nil_pattern, pattern_in_parentheses, tuple_pattern, list_pattern, cons_pattern, Patterns, no_pattern, pattern}
 use Rattle.hdc_written.specs.Written.{variables, all_variables, count_patterns, Expression, chain, Links, no_link, link, Operand, variable, constructor, literal, unit, nil, cons, in_parentheses, tuple, list, range, comprehension, left_section, right_section, applied, lambda, let_in, if_else, case_of, Operands, no_operand, operand, Expressions, no_expression, expression, Qualifier, generator, condition, let_qualifier, Qualifiers, no_qualifier, qualifier, Alternative, blank, alternative, Alternatives, no_alternative, next_alternative, RightSide, plain, guarded, Guards, no_guard, guard, Declaration, empty, signature, equation, binding, Declarations, no_declaration, declaration, all_bound}
 use Rattle.hdc_written.specs.Mirror.{var_name, op_name, head_patterns, rhs_of}
 use Rattle.hdc_rules.specs.declared.known.Known.{Known}
 use Rattle.hdc_rules.specs.Known.{Values, Counted, skeletons, prelude_values, program_values, prelude_known, program_known}
-use Rattle.hdc_rules.specs.Names.{where_so, names_text, unknown, unless_some, unless_counted, is_skeleton}
+use Rattle.hdc_rules.specs.Names.{where_so, unknown, unless_some, unless_counted, is_skeleton}
 use Rattle.hdc_rules.specs.Bindings.{block_breaches, tops_breaches}
 
 -- names that come into scope

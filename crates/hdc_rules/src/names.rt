@@ -1,7 +1,7 @@
 //! Names that stand in a text.
 
 ghost use Rattle.std.specs.Prelude.{◌≡◌, [], ◌∷◌, ◌++◌, OnOk, IfOk, map};
-ghost use Rattle.hdc_rules.specs.Names.{names_text};
+ghost use Rattle.hdc_written.specs.Scopes.{names_text};
 
 use hdc_base::At;
 use hdc_tree::Name;

@@ -12,8 +12,8 @@ use Rattle.hdc_value.specs.declared.outcome.TrapKind.{TrapKind}
 use Rattle.hdc_value.specs.declared.outcome.Outcome.{Outcome}
 use Rattle.hdc_value.specs.declared.outcome.Outcome.TheVariants as outcome
 use Rattle.hdc_value.specs.Arithmetic.{arith_of}
-use Rattle.hdc_tree.specs.Tree.{Tree, literal, binary, paren}
-use Rattle.hdc_tree.specs.Meaning.{at_operator, apply, eval, meaning}
+use Rattle.hdc_arithmetic.specs.Tree.{Tree, literal, binary, paren}
+use Rattle.hdc_arithmetic.specs.Meaning.{at_operator, apply, eval, meaning}
 use Rattle.hdc_code.specs.declared.instr.Instr.{Instr}
 use Rattle.hdc_code.specs.declared.instr.Instr.TheVariants as instr
 use Rattle.hdc_code.specs.Machine.{Config, running_at, ended_with, start, after_operator, execute, step, steps}

@@ -17,13 +17,13 @@ use Rattle.hdc_lex.proofs.OneAnswer.{same_answer}
 use Rattle.hdc_layout.specs.LaidOut.{laid_out}
 use Rattle.hdc_tree.specs.declared.program.Top.{Top}
 use Rattle.hdc_tree.specs.declared.program.Tree as program
-use Rattle.hdc_tree.specs.Program.{IsProgram}
+use Rattle.hdc_arithmetic.specs.Program.{IsProgram}
 use Rattle.hdc_value.specs.declared.outcome.Outcome.{Outcome}
 use Rattle.hdc_value.specs.declared.outcome.Outcome.TheVariants as outcome
 use Rattle.hdc_value.specs.Answer.{Answer}
-use Rattle.hdc_tree.specs.Tree.{Tree}
-use Rattle.hdc_tree.specs.Meaning.{eval, meaning}
-use Rattle.hdc_tree.proofs.Programs.{same_tree}
+use Rattle.hdc_arithmetic.specs.Tree.{Tree}
+use Rattle.hdc_arithmetic.specs.Meaning.{eval, meaning}
+use Rattle.hdc_arithmetic.proofs.Programs.{same_tree}
 use Rattle.hdc_code.specs.declared.instr.Instr.{Instr}
 use Rattle.hdc_code.specs.Sound.{EndsWith}
 use Rattle.hdc_top.specs.declared.job.Due.{Due}

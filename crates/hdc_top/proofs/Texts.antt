@@ -12,12 +12,12 @@ use Rattle.hdc_lex.specs.Lexing.{Lexes}
 use Rattle.hdc_layout.specs.declared.stop.LayoutStop.{LayoutStop}
 use Rattle.hdc_layout.specs.declared.stop.LayoutStop.TheVariants as laying
 use Rattle.hdc_layout.specs.LaidOut.{laid_out, IsLaidOut}
-use Rattle.hdc_tree.specs.declared.exp.Exp.{Exp}
-use Rattle.hdc_tree.specs.declared.token.Token.{Token}
-use Rattle.hdc_tree.specs.Tree.{Tree, tree_of}
-use Rattle.hdc_tree.specs.Program.{IsProgram, SpellsNone, program_tokens}
-use Rattle.hdc_tree.specs.Reading.{tokens_in, program_of}
-use Rattle.hdc_tree.proofs.Programs.{program_found, program_read, inner_same}
+use Rattle.hdc_arithmetic.specs.declared.exp.Exp.{Exp}
+use Rattle.hdc_arithmetic.specs.declared.token.Token.{Token}
+use Rattle.hdc_arithmetic.specs.Tree.{Tree, tree_of}
+use Rattle.hdc_arithmetic.specs.Program.{IsProgram, SpellsNone, program_tokens}
+use Rattle.hdc_arithmetic.specs.Reading.{tokens_in, program_of}
+use Rattle.hdc_arithmetic.proofs.Programs.{program_found, program_read, inner_same}
 use Rattle.hdc_parse.specs.declared.stop.ParseStop.{ParseStop}
 use Rattle.hdc_parse.specs.declared.stop.ParseStop.TheVariants as parsing
 use Rattle.hdc_parse.specs.Exact.{IsParsed}

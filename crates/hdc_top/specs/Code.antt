@@ -3,8 +3,8 @@ use Rattle.std.specs.Prelude.{ℕ, List, [], ◌∷◌, ◌++◌}
 use Rattle.hdc_base.specs.declared.place.At.{At}
 use Rattle.hdc_base.specs.declared.place.Place.{Place}
 use Rattle.hdc_base.specs.declared.place.Src.TheVariants.{Program}
-use Rattle.hdc_tree.specs.Tree.{Tree, literal, binary, paren}
-use Rattle.hdc_tree.specs.Meaning.{meaning}
+use Rattle.hdc_arithmetic.specs.Tree.{Tree, literal, binary, paren}
+use Rattle.hdc_arithmetic.specs.Meaning.{meaning}
 use Rattle.hdc_code.specs.declared.instr.Instr.{Instr}
 use Rattle.hdc_code.specs.declared.instr.Instr.TheVariants as instr
 use Rattle.hdc_code.specs.Sound.{IsSound, CarriesAt}

@@ -9,8 +9,8 @@ use Rattle.hdc_base.specs.Counts.{Rose}
 use Rattle.hdc_value.specs.declared.outcome.Outcome.{Outcome}
 use Rattle.hdc_value.specs.declared.outcome.Outcome.TheVariants as outcome
 use Rattle.hdc_value.specs.Answer.{Answer}
-use Rattle.hdc_tree.specs.Tree.{Tree}
-use Rattle.hdc_tree.specs.Meaning.{meaning}
+use Rattle.hdc_arithmetic.specs.Tree.{Tree}
+use Rattle.hdc_arithmetic.specs.Meaning.{meaning}
 use Rattle.hdc_top.specs.Stopped.{most_bytes, SpellsTree, IsStopped}
 use Rattle.hdc_top.specs.Report.{run_text, stop_text}
 use Rattle.hdc_top.specs.Words.{job_of, usage_text}

@@ -1,7 +1,7 @@
 -- What the parser in memory stands for.
 use Rattle.std.specs.Prelude.{◌≡◌, List, map, reverse, Option, Some, None, Result, Ok, Err}
-use Rattle.hdc_tree.specs.Tree.{tree_of}
-use Rattle.hdc_tree.specs.Reading as reading
+use Rattle.hdc_arithmetic.specs.Tree.{tree_of}
+use Rattle.hdc_arithmetic.specs.Reading as reading
 use Rattle.hdc_top.specs.declared.parser.Waiting.{Waiting}
 use Rattle.hdc_top.specs.declared.parser.Pending.{Pending}
 use Rattle.hdc_top.specs.declared.parser.Pending.TheVariants.{Beginning, Behind}

@@ -6,12 +6,12 @@ use Rattle.hdc_base.specs.declared.place.At.{At}
 use Rattle.hdc_base.specs.declared.token.Token as text_token
 use Rattle.hdc_base.specs.declared.refusal.Stop.{Stop}
 use Rattle.hdc_base.specs.declared.refusal.Stop.TheVariants as text_stop
-use Rattle.hdc_tree.specs.declared.exp.Exp.{Exp}
+use Rattle.hdc_arithmetic.specs.declared.exp.Exp.{Exp}
 use Rattle.hdc_tree.specs.declared.program.Tree as program
-use Rattle.hdc_tree.specs.declared.token.Token.{Token}
-use Rattle.hdc_tree.specs.Tree.{Tree, tree_of}
-use Rattle.hdc_tree.specs.Lexemes.{braced}
-use Rattle.hdc_tree.specs.Program.{IsProgram, SpellsNone}
+use Rattle.hdc_arithmetic.specs.declared.token.Token.{Token}
+use Rattle.hdc_arithmetic.specs.Tree.{Tree, tree_of}
+use Rattle.hdc_arithmetic.specs.Lexemes.{braced}
+use Rattle.hdc_arithmetic.specs.Program.{IsProgram, SpellsNone}
 use Rattle.hdc_top.specs.declared.names.NamesStop.{NamesStop}
 use Rattle.hdc_top.specs.declared.names.NamesStop.TheVariants as checking
 use Rattle.hdc_code.specs.declared.instr.Instr.{Instr}

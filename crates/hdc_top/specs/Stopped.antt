@@ -18,8 +18,8 @@ use Rattle.hdc_layout.specs.declared.stop.LayoutStop.{LayoutStop}
 use Rattle.hdc_layout.specs.declared.stop.LayoutStop.TheVariants as laying
 use Rattle.hdc_layout.specs.LaidOut.{laid_out}
 use Rattle.hdc_tree.specs.declared.program.Tree as program
-use Rattle.hdc_tree.specs.Tree.{Tree}
-use Rattle.hdc_tree.specs.Program.{IsProgram, SpellsNone}
+use Rattle.hdc_arithmetic.specs.Tree.{Tree}
+use Rattle.hdc_arithmetic.specs.Program.{IsProgram, SpellsNone}
 use Rattle.hdc_parse.specs.declared.stop.ParseStop.{ParseStop}
 use Rattle.hdc_parse.specs.declared.stop.ParseStop.TheVariants as parsing
 use Rattle.hdc_parse.specs.Exact.{IsParsed, IsSyntax, IsNesting}

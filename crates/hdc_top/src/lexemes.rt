@@ -5,12 +5,12 @@ ghost use Rattle.std.specs.Str.{bytes_eq};
 ghost use Rattle.hdc_base.specs.declared.place.At.{At};
 ghost use Rattle.hdc_base.specs.declared.token.Token as text_token;
 ghost use Rattle.hdc_base.specs.declared.token.Key as text_key;
-ghost use Rattle.hdc_tree.specs.Reading.{key_word, operator_word, token_of, tokens_in, word_of};
+ghost use Rattle.hdc_arithmetic.specs.Reading.{key_word, operator_word, token_of, tokens_in, word_of};
 ghost use Rattle.hdc_top.specs.Results.{Finds, IsBetween};
 
 use crate::reader::ReadStop;
 use hdc_base::{Key, Token as Lexeme, Word as LexemeWord};
-use hdc_tree::{Token, Word};
+use hdc_arithmetic::{Token, Word};
 use hdc_value::Op;
 use std::alloc::Global;
 

@@ -6,14 +6,14 @@
 
 ghost use Rattle.std.specs.Prelude.{◌≡◌, ◌<◌, ◌∷◌, Some, IfOk, MatchOption, length};
 ghost use Rattle.std.specs.List.{count_by};
-ghost use Rattle.hdc_tree.specs.Tree.{tree_of, binary};
-ghost use Rattle.hdc_tree.specs.Reading.{advance, closed, expression, finish, is_operator, opened, product_after, program_of, shut, sum_after, with_operand};
+ghost use Rattle.hdc_arithmetic.specs.Tree.{tree_of, binary};
+ghost use Rattle.hdc_arithmetic.specs.Reading.{advance, closed, expression, finish, is_operator, opened, product_after, program_of, shut, sum_after, with_operand};
 ghost use Rattle.hdc_top.specs.Results.{Reads};
 ghost use Rattle.hdc_top.specs.Parsing.{waiting_of, pending_of, levels_of, progress_of, Advances};
 
 use crate::reader::ReadStop;
 use hdc_base::At;
-use hdc_tree::{Exp, Token, Word};
+use hdc_arithmetic::{Exp, Token, Word};
 use hdc_value::Op;
 use std::alloc::{AllocError, Global};
 

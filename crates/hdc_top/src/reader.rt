@@ -13,7 +13,8 @@ use hdc_base::{At, Kind, Limit, Refusal, Stop, Token, Tokens, Which};
 use hdc_layout::{LayoutStop, lay_out};
 use hdc_lex::{Form, LexStop, end_of, lex};
 use hdc_parse::ParseStop;
-use hdc_tree::{Exp, Tree};
+use hdc_arithmetic::Exp;
+use hdc_tree::Tree;
 use std::alloc::{AllocError, AllocFailed, Global};
 
 /// Why a text was not read.

@@ -1,6 +1,3 @@
-pub mod Lexemes
-pub mod Trees
-pub mod Programs
 pub mod Lists
 pub mod PatternEquations
 pub mod TypeEquations

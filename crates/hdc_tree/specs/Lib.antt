@@ -1,6 +1,3 @@
-pub mod Tree
-pub mod Lexemes
-pub mod Spelling
 pub mod NameSpelling
 pub mod PatternSpelling
 pub mod TypeSpelling
@@ -13,6 +10,3 @@ pub mod TypeForm
 pub mod HeadForm
 pub mod ExpressionForm
 pub mod ProgramForm
-pub mod Program
-pub mod Meaning
-pub mod Reading

@@ -1,5 +1,5 @@
 -- The bindings of a scope, from the last one, and what a name stands for by them.
-use Rattle.std.specs.Prelude.{ℕ, List, [], ◌∷◌, Option, None, Some, if◌then◌else◌}
+use Rattle.std.specs.Prelude.{ℕ, Bool, false, ◌||◌, List, [], ◌∷◌, Option, None, Some, if◌then◌else◌}
 use Rattle.std.specs.Str.{bytes_eq}
 use Rattle.hdc_tree.specs.declared.name.Name.{Name}
 
@@ -18,3 +18,8 @@ module _ {T : Type 0} where
   abbrev pub bound_to : T → List Name → List (Binding T) → List (Binding T)
   bound_to what [] scope = scope
   bound_to what (x ∷ xs) scope = bound_to what xs (record { name = x.text; what = what } ∷ scope)
+
+-- whether a text is that of one of these names
+abbrev pub names_text : List Name → List ℕ → Bool
+names_text [] t = false
+names_text (x ∷ xs) t = bytes_eq t x.text || names_text xs t

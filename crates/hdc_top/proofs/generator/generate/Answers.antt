@@ -1,5 +1,5 @@
 use Rattle.std.proofs.Common.{◌≡◌, sym, subst, refl}
-use Rattle.hdc_tree.specs.Tree.{tree_of}
+use Rattle.hdc_arithmetic.specs.Tree.{tree_of}
 use Rattle.hdc_top.specs.Code.{CarriesMeaning}
 use Rattle.hdc_top.proofs.Carrying.{program_code, program_carries}
 use Rattle.hdc_top.proofs.generator.generate.Goals as goal

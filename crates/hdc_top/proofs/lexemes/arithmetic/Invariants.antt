@@ -1,5 +1,5 @@
 use Rattle.std.proofs.Common.{◌≡◌, drop}
-use Rattle.hdc_tree.specs.Reading.{tokens_in}
+use Rattle.hdc_arithmetic.specs.Reading.{tokens_in}
 use Rattle.hdc_top.proofs.Tokens.{joined}
 use Rattle.hdc_top.proofs.lexemes.arithmetic.Given as goal
 

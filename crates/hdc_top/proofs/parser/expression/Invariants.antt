@@ -1,5 +1,5 @@
 use Rattle.std.proofs.Common.{◌≡◌, drop}
-use Rattle.hdc_tree.specs.Reading.{read_on, expression}
+use Rattle.hdc_arithmetic.specs.Reading.{read_on, expression}
 use Rattle.hdc_top.specs.Parsing.{progress_of}
 use Rattle.hdc_top.proofs.parser.expression.Given as goal
 

@@ -2,11 +2,11 @@
 use Rattle.std.specs.Prelude.{◌≡◌, ℕ, ◌≤◌, List, ◌∷◌}
 use Rattle.hdc_base.specs.declared.place.At.{At}
 use Rattle.hdc_base.specs.declared.token.Token as text_token
-use Rattle.hdc_tree.specs.declared.token.Word.TheVariants.{Main, Equal}
-use Rattle.hdc_tree.specs.declared.token.Token.{Token}
-use Rattle.hdc_tree.specs.Tree.{Tree}
-use Rattle.hdc_tree.specs.Lexemes.{AreTokens, braced}
-use Rattle.hdc_tree.specs.Spelling.{tokens_of, IsOperatorTree, operator_count, nesting}
+use Rattle.hdc_arithmetic.specs.declared.token.Word.TheVariants.{Main, Equal}
+use Rattle.hdc_arithmetic.specs.declared.token.Token.{Token}
+use Rattle.hdc_arithmetic.specs.Tree.{Tree}
+use Rattle.hdc_arithmetic.specs.Lexemes.{AreTokens, braced}
+use Rattle.hdc_arithmetic.specs.Spelling.{tokens_of, IsOperatorTree, operator_count, nesting}
 
 -- the most operators that a program of this form may have
 abbrev pub most_operators : ℕ

@@ -6,9 +6,9 @@ use Rattle.hdc_base.specs.declared.token.Word as text_word
 use Rattle.hdc_base.specs.declared.token.Word.TheVariants as text
 use Rattle.hdc_base.specs.declared.token.Token as text_token
 use Rattle.hdc_value.specs.declared.arithmetic.Op.TheVariants.{Add, Sub, Mul}
-use Rattle.hdc_tree.specs.declared.token.Word.{Word}
-use Rattle.hdc_tree.specs.declared.token.Word.TheVariants.{Main, Equal, Num, Operator, Open, Close}
-use Rattle.hdc_tree.specs.declared.token.Token.{Token}
+use Rattle.hdc_arithmetic.specs.declared.token.Word.{Word}
+use Rattle.hdc_arithmetic.specs.declared.token.Word.TheVariants.{Main, Equal, Num, Operator, Open, Close}
+use Rattle.hdc_arithmetic.specs.declared.token.Token.{Token}
 
 -- the word of a text is the word of arithmetic; a literal has 63 bits
 abbrev pub IsWord : Word → text_word.Word → Type 0

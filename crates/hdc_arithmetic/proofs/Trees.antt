@@ -8,13 +8,13 @@ use Rattle.std.proofs.lemmas.Bool.Decides.{nat_tests}
 use Rattle.hdc_base.specs.declared.place.At.{At}
 use Rattle.hdc_value.specs.declared.arithmetic.Op.{Op}
 use Rattle.hdc_value.specs.declared.arithmetic.Op.TheVariants.{Add, Sub, Mul}
-use Rattle.hdc_tree.specs.declared.token.Word.{Word}
-use Rattle.hdc_tree.specs.declared.token.Word.TheVariants.{Main, Equal, Num, Operator, Open, Close}
-use Rattle.hdc_tree.specs.declared.token.Token.{Token}
-use Rattle.hdc_tree.specs.Tree.{Tree, literal, binary, paren}
-use Rattle.hdc_tree.specs.Program.{most_open}
-use Rattle.hdc_tree.specs.Spelling.{tokens_of, precedence, binding, IsOperatorTree, operator_count, nesting}
-use Rattle.hdc_tree.specs.Reading.{Waiting, closed, Pending, beginning, behind, sum_after, product_after, Level, Progress, wants, has, with_operand, shut, opened, advance_word, advance, finish, read_on, expression, is_operator}
+use Rattle.hdc_arithmetic.specs.declared.token.Word.{Word}
+use Rattle.hdc_arithmetic.specs.declared.token.Word.TheVariants.{Main, Equal, Num, Operator, Open, Close}
+use Rattle.hdc_arithmetic.specs.declared.token.Token.{Token}
+use Rattle.hdc_arithmetic.specs.Tree.{Tree, literal, binary, paren}
+use Rattle.hdc_arithmetic.specs.Program.{most_open}
+use Rattle.hdc_arithmetic.specs.Spelling.{tokens_of, precedence, binding, IsOperatorTree, operator_count, nesting}
+use Rattle.hdc_arithmetic.specs.Reading.{Waiting, closed, Pending, beginning, behind, sum_after, product_after, Level, Progress, wants, has, with_operand, shut, opened, advance_word, advance, finish, read_on, expression, is_operator}
 
 -- a token at a place
 abbrev token : At → Word → Token

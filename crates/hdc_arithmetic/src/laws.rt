@@ -2,8 +2,8 @@
 
 ghost use Rattle.std.specs.Prelude.{◌≡◌, List};
 ghost use Rattle.hdc_base.specs.declared.token.Token.{Token};
-ghost use Rattle.hdc_tree.specs.Tree.{Tree};
-ghost use Rattle.hdc_tree.specs.Program.{IsProgram};
+ghost use Rattle.hdc_arithmetic.specs.Tree.{Tree};
+ghost use Rattle.hdc_arithmetic.specs.Program.{IsProgram};
 
 /// No tokens spell two trees.
 pub fn one_tree()

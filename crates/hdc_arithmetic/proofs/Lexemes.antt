@@ -10,11 +10,11 @@ use Rattle.hdc_base.specs.declared.token.Word as text_word
 use Rattle.hdc_base.specs.declared.token.Word.TheVariants as text
 use Rattle.hdc_base.specs.declared.token.Token as text_token
 use Rattle.hdc_value.specs.declared.arithmetic.Op.TheVariants.{Add, Sub, Mul}
-use Rattle.hdc_tree.specs.declared.token.Word.{Word}
-use Rattle.hdc_tree.specs.declared.token.Word.TheVariants.{Main, Equal, Num, Operator, Open, Close}
-use Rattle.hdc_tree.specs.declared.token.Token.{Token}
-use Rattle.hdc_tree.specs.Lexemes.{IsWord, AreTokens}
-use Rattle.hdc_tree.specs.Reading.{operator_word, key_word, word_of, token_at, token_of, with_first, tokens_in}
+use Rattle.hdc_arithmetic.specs.declared.token.Word.{Word}
+use Rattle.hdc_arithmetic.specs.declared.token.Word.TheVariants.{Main, Equal, Num, Operator, Open, Close}
+use Rattle.hdc_arithmetic.specs.declared.token.Token.{Token}
+use Rattle.hdc_arithmetic.specs.Lexemes.{IsWord, AreTokens}
+use Rattle.hdc_arithmetic.specs.Reading.{operator_word, key_word, word_of, token_at, token_of, with_first, tokens_in}
 
 -- a word is found where it stands
 word_found : (v : Word) (w : text_word.Word) → IsWord v w → word_of w ≡ Some v

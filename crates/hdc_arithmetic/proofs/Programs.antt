@@ -4,21 +4,21 @@ use Rattle.std.specs.Prelude.{nat_le}
 use Rattle.std.specs.List.{count_by}
 use Rattle.std.proofs.lemmas.Bool.Decides.{nat_tests}
 use Rattle.hdc_base.specs.declared.place.At.{At}
-use Rattle.hdc_tree.specs.declared.token.Word.{Word}
-use Rattle.hdc_tree.specs.declared.token.Word.TheVariants.{Main, Equal, Num, Operator, Open, Close}
-use Rattle.hdc_tree.specs.declared.token.Token.{Token}
-use Rattle.hdc_tree.specs.Tree.{Tree}
+use Rattle.hdc_arithmetic.specs.declared.token.Word.{Word}
+use Rattle.hdc_arithmetic.specs.declared.token.Word.TheVariants.{Main, Equal, Num, Operator, Open, Close}
+use Rattle.hdc_arithmetic.specs.declared.token.Token.{Token}
+use Rattle.hdc_arithmetic.specs.Tree.{Tree}
 use Rattle.std.proofs.lemmas.List.{length-append}
 use Rattle.std.proofs.Math.Seq.{take-append_seam}
 use Rattle.hdc_base.specs.declared.token.Key.TheVariants as key
 use Rattle.hdc_base.specs.declared.token.Word.TheVariants as text
 use Rattle.hdc_base.specs.declared.token.Token as text_token
-use Rattle.hdc_tree.specs.Lexemes.{AreTokens, braced}
-use Rattle.hdc_tree.specs.Spelling.{tokens_of, IsOperatorTree, operator_count, nesting}
-use Rattle.hdc_tree.specs.Program.{program_tokens, IsProgram, most_operators, most_open}
-use Rattle.hdc_tree.specs.Reading.{expression, is_main, is_equal_sign, is_operator, binding_of, program_of, tokens_in}
-use Rattle.hdc_tree.proofs.Trees.{expression_found, expression_only, operators_counted}
-use Rattle.hdc_tree.proofs.Lexemes.{tokens_found, tokens_is}
+use Rattle.hdc_arithmetic.specs.Lexemes.{AreTokens, braced}
+use Rattle.hdc_arithmetic.specs.Spelling.{tokens_of, IsOperatorTree, operator_count, nesting}
+use Rattle.hdc_arithmetic.specs.Program.{program_tokens, IsProgram, most_operators, most_open}
+use Rattle.hdc_arithmetic.specs.Reading.{expression, is_main, is_equal_sign, is_operator, binding_of, program_of, tokens_in}
+use Rattle.hdc_arithmetic.proofs.Trees.{expression_found, expression_only, operators_counted}
+use Rattle.hdc_arithmetic.proofs.Lexemes.{tokens_found, tokens_is}
 
 -- the first two tokens are no operators
 abbrev counted : At → At → Tree → Type 0

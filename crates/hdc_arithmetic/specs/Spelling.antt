@@ -2,9 +2,9 @@
 use Rattle.std.specs.Prelude.{ℕ, ◌+◌, ◌<◌, ◌≤◌, List, [], ◌∷◌, ◌++◌, max}
 use Rattle.hdc_value.specs.declared.arithmetic.Op.{Op}
 use Rattle.hdc_value.specs.declared.arithmetic.Op.TheVariants.{Add, Sub, Mul}
-use Rattle.hdc_tree.specs.declared.token.Word.TheVariants.{Num, Operator, Open, Close}
-use Rattle.hdc_tree.specs.declared.token.Token.{Token}
-use Rattle.hdc_tree.specs.Tree.{Tree, literal, binary, paren}
+use Rattle.hdc_arithmetic.specs.declared.token.Word.TheVariants.{Num, Operator, Open, Close}
+use Rattle.hdc_arithmetic.specs.declared.token.Token.{Token}
+use Rattle.hdc_arithmetic.specs.Tree.{Tree, literal, binary, paren}
 
 -- its tokens from left to right, each with its place
 abbrev pub tokens_of : Tree → List Token

@@ -11,11 +11,11 @@ use Rattle.hdc_base.specs.declared.token.Word.TheVariants as text
 use Rattle.hdc_base.specs.declared.token.Token as text_token
 use Rattle.hdc_value.specs.declared.arithmetic.Op.{Op}
 use Rattle.hdc_value.specs.declared.arithmetic.Op.TheVariants.{Add, Sub, Mul}
-use Rattle.hdc_tree.specs.declared.token.Word.{Word}
-use Rattle.hdc_tree.specs.declared.token.Word.TheVariants.{Main, Equal, Num, Operator, Open, Close}
-use Rattle.hdc_tree.specs.declared.token.Token.{Token}
-use Rattle.hdc_tree.specs.Tree.{Tree, literal, binary, paren}
-use Rattle.hdc_tree.specs.Program.{most_operators, most_open}
+use Rattle.hdc_arithmetic.specs.declared.token.Word.{Word}
+use Rattle.hdc_arithmetic.specs.declared.token.Word.TheVariants.{Main, Equal, Num, Operator, Open, Close}
+use Rattle.hdc_arithmetic.specs.declared.token.Token.{Token}
+use Rattle.hdc_arithmetic.specs.Tree.{Tree, literal, binary, paren}
+use Rattle.hdc_arithmetic.specs.Program.{most_operators, most_open}
 
 -- the operator of a name
 abbrev pub operator_word : List ℕ → Option Word

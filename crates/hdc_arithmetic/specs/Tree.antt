@@ -2,8 +2,8 @@
 use Rattle.std.specs.Prelude.{ℤ}
 use Rattle.hdc_base.specs.declared.place.At.{At}
 use Rattle.hdc_value.specs.declared.arithmetic.Op.{Op}
-use Rattle.hdc_tree.specs.declared.exp.Exp.{Exp}
-use Rattle.hdc_tree.specs.declared.exp.Exp.TheVariants.{Literal, Binary', Paren'}
+use Rattle.hdc_arithmetic.specs.declared.exp.Exp.{Exp}
+use Rattle.hdc_arithmetic.specs.declared.exp.Exp.TheVariants.{Literal, Binary', Paren'}
 
 -- a literal with its place, an operator with its place and its operands, or a tree in parentheses with their places
 pub data Tree : Type 0 where

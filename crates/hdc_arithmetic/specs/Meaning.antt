@@ -9,7 +9,7 @@ use Rattle.hdc_value.specs.declared.outcome.Outcome.{Outcome}
 use Rattle.hdc_value.specs.declared.outcome.Outcome.TheVariants as outcome
 use Rattle.hdc_value.specs.Arithmetic.{arith_of}
 use Rattle.hdc_value.specs.Answer.{Answer}
-use Rattle.hdc_tree.specs.Tree.{Tree, literal, binary, paren}
+use Rattle.hdc_arithmetic.specs.Tree.{Tree, literal, binary, paren}
 
 -- a result as an outcome; a trap stands at the operator
 abbrev pub at_operator : At → Result ℤ TrapKind → Outcome
