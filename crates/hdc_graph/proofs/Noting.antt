@@ -20,12 +20,12 @@ contains_had [] x h = absurd h
 contains_had (y ∷ xs) x (inl e) = (0, omega arith, e)
 contains_had (y ∷ xs) x (inr h) = let r = contains_had xs x h in (suc r.0, omega (arith, r.1), r.2)
 
-has_map : (f : ℕ → ℕ) (xs : List ℕ) (k : ℕ) → Has (map f xs) k → (t : ℕ) × Has xs t × (f t ≡ k)
+pub has_map : (f : ℕ → ℕ) (xs : List ℕ) (k : ℕ) → Has (map f xs) k → (t : ℕ) × Has xs t × (f t ≡ k)
 has_map f [] k h = absurd h
 has_map f (x ∷ xs) k (inl e) = (x, inl refl, e)
 has_map f (x ∷ xs) k (inr h) = let r = has_map f xs k h in (r.0, inr r.1, r.2)
 
-map_has : (f : ℕ → ℕ) (xs : List ℕ) (t : ℕ) → Has xs t → Has (map f xs) (f t)
+pub map_has : (f : ℕ → ℕ) (xs : List ℕ) (t : ℕ) → Has xs t → Has (map f xs) (f t)
 map_has f [] t h = absurd h
 map_has f (x ∷ xs) t (inl e) = inl (ap f e)
 map_has f (x ∷ xs) t (inr h) = inr (map_has f xs t h)

@@ -71,7 +71,7 @@ impl Graph {
     }
 
     /// The nodes that a node needs.
-    pub(crate) fn needs(&self, node: usize) -> &[u32]
+    pub fn needs(&self, node: usize) -> &[u32]
         requires { node < length self.now }
         ensures { result.now ≡ needs_of self.now node }
     {

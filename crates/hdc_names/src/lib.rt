@@ -8,7 +8,8 @@
 //!
 //! `steps` answers how the tree of one chain is built, or the first operand up to which the chain has none
 //! (`specs/Chain.antt`); `one_tree` says that a chain has at most one, and `no_tree_behind` that it has none
-//! where it has none up to an operand.
+//! where it has none up to an operand. `operators_of` reads the operators of an expression's chain in a scope that begins
+//! with `bind_standard` or `program_scope`.
 #![tactic(auto)]
 
 mod chain;
@@ -31,3 +32,5 @@ pub use chain::{ChainStop, NextOperand, Step, steps};
 pub use check::{TreesStop, check_trees};
 pub use fixity::Fixity;
 pub use laws::{no_tree_behind, one_tree};
+pub use operator::{bind_standard, program_scope, undeclared};
+pub use site::{is_signed, operators_of};

@@ -14,7 +14,7 @@ use hdc_written::{Scope, head_name, op_name};
 use std::alloc::{AllocError, Global};
 
 /// An operator without a declaration, and so one that is bound locally, is infixl 9.
-pub(crate) fn undeclared() -> Fixity
+pub fn undeclared() -> Fixity
     ensures { result ≡ spec.undeclared }
 {
     Fixity {
@@ -57,8 +57,8 @@ pub(crate) fn place_of_op(op: &Op) -> At
     }
 }
 
-/// The operators of the prelude bind before all that are bound so far.
-pub(crate) fn bind_standard(scope: &mut Scope<Fixity>) -> Result<(), AllocError>
+/// The operators of the prelude bind before all that are bound so far. Memory may be wanting.
+pub fn bind_standard(scope: &mut Scope<Fixity>) -> Result<(), AllocError>
     ensures { OnOk result (scope.new ≡ spec.standard ++ scope.old) }
 {
     bind_rows(scope, &STANDARD)
@@ -118,11 +118,8 @@ fn bind_row<'t>(
     )
 }
 
-/// What is in scope in a program.
-pub(crate) fn program_scope<'t>(
-    alloc: Global,
-    program: &'t Tree,
-) -> Result<Scope<'t, Fixity>, AllocError>
+/// How the operators that are in scope in a program bind. Memory may be wanting.
+pub fn program_scope<'t>(alloc: Global, program: &'t Tree) -> Result<Scope<'t, Fixity>, AllocError>
     ensures { IfOk result (λ scope. scope ≡ spec.program_scope (mirror.tops_of program.now)) }
 {
     let mut declarations = Scope::new(alloc);

@@ -14,9 +14,9 @@ use hdc_written::Scope;
 use sqlite_items::Items;
 use std::alloc::{AllocError, Global};
 
-/// The operators of the chain of an expression, and the operands behind them.
+/// The operators of the chain of an expression as they bind in a scope, and the operands behind them. Memory may be wanting.
 #[tactic(auto, using(hdc_written::proofs::ExpressionMirror::mirrored_expressions))]
-pub(crate) fn operators_of(
+pub fn operators_of(
     alloc: Global,
     scope: &Scope<Fixity>,
     exp: &Expression,
@@ -69,7 +69,7 @@ pub(crate) fn right_fault(
 
 /// Whether the first operand of the chain of an expression has a sign.
 #[tactic(auto, using(hdc_written::proofs::ExpressionMirror::mirrored_expressions))]
-pub(crate) fn is_signed(exp: &Expression) -> bool
+pub fn is_signed(exp: &Expression) -> bool
     ensures { result ≡ spec.is_minus (spec.sign_of (mirror.exp_of exp.now)) }
 {
     match first_sign(exp.links.as_slice(), exp.sign) {

@@ -175,7 +175,7 @@ at_row whole (declaration d ds) k (suc a) b (inr h) =
 
 -- ---- one step
 
-need_of : (ds : Declarations) (a b : ℕ) → UsesOf (bound_from 0 ds) (ended ds).uses a b → Needs (block_needs ds ds) a b
+pub need_of : (ds : Declarations) (a b : ℕ) → UsesOf (bound_from 0 ds) (ended ds).uses a b → Needs (block_needs ds ds) a b
 need_of ds a b u =
     let t = u.text in
     let q : HoldsAt 0 ds b (λ d. HasText (bound d) t) = bound_at 0 ds b t u.bound in
@@ -204,7 +204,7 @@ shared ds b d h =
       ),
     )
 
-use_of : (ds : Declarations) (a b : ℕ) → Needs (block_needs ds ds) a b → UsesOf (bound_from 0 ds) (ended ds).uses a b
+pub use_of : (ds : Declarations) (a b : ℕ) → Needs (block_needs ds ds) a b → UsesOf (bound_from 0 ds) (ended ds).uses a b
 use_of ds a b need =
     let same : 0 + a ≡ a = omega arith in
     let row : HoldsAt 0 ds a (λ d. Has (binders (free_declaration d) 0 ds) b) = subst (λ (n : ℕ). HoldsAt 0 ds n (λ d. Has (binders (free_declaration d) 0 ds) b)) same (row_at ds ds 0 a b (has_contained (needs_of (block_needs ds ds) a) b need)) in

@@ -10,3 +10,4 @@ pub mod Noting
 pub mod Results
 pub mod Finding
 pub mod Describing
+pub mod Ordering

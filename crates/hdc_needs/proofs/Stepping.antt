@@ -50,7 +50,7 @@ module _ (n : ℕ) (binds uses : List Mention) (node : List ℕ → Option ℕ) 
         λ ge. (let l : LeadsTo binds node c a = (h.binding a c ge).0 need in (c, need, inr (rest.0 (h.below c l.text l.mentioned)))),
       )
 
-  one_step : (a b : ℕ) → UsesOf binds uses a b → a < n → (m : ℕ) × Needs g a m × Needs g m b
+  pub one_step : (a b : ℕ) → UsesOf binds uses a b → a < n → (m : ℕ) × Needs g a m × Needs g m b
   one_step a b u lt =
       let m = h.known b u.text u.bound in
       let lies : n ≤ m.0 = (h.inside u.text m.0 m.1).0 in

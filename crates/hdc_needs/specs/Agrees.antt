@@ -2,6 +2,7 @@
 use Rattle.std.specs.Prelude.{◌≡◌, ◌↔◌, ◌<◌, ◌≤◌, ℕ, List, [], ◌∷◌, ◌++◌, length, Option, None, Some}
 use Rattle.hdc_tree.specs.declared.name.Name.{Name}
 use Rattle.hdc_graph.specs.Needs.{Nodes, Needs}
+use Rattle.hdc_order.specs.Order.{NoValueReachesItself, order_of}
 use Rattle.hdc_written.specs.declared.breach.Breach.{Breach}
 use Rattle.hdc_written.specs.declared.breach.Found.{Found}
 use Rattle.hdc_written.specs.Breaches.{nothing_found, all_noted, IsOneOf}
@@ -15,7 +16,8 @@ use Rattle.hdc_needs.specs.declared.walk.Walk.{Walk}
 use Rattle.hdc_needs.specs.Bind.{Targets}
 use Rattle.hdc_needs.specs.Binders.{bound_from}
 use Rattle.hdc_needs.specs.Kept.{declarations_of}
-use Rattle.hdc_needs.specs.Uses.{Mentions, OneBreaks}
+use Rattle.hdc_needs.specs.Orders.{values_in}
+use Rattle.hdc_needs.specs.Uses.{Mentions, UsesOf, OneBreaks}
 use Rattle.hdc_needs.specs.Walk.{Mention, Frame, patterns, local, Ended, State, lost, going, count_declarations}
 
 -- a name has a node, and a declaration mentions the name
@@ -81,7 +83,23 @@ pub record HasFound (es : List Ended) (f : Found) : Type 0 where
   pub noted : f ≡ all_noted nothing_found breaches
   pub exactly : (b : Breach) → IsOneOf b breaches ↔ OneBreaks es b
 
+-- a graph of the declarations of a block that has ended: each needs those that bind what it uses
+pub record HasNeeds (e : Ended) (g : Nodes) : Type 0 where
+  pub each : length g ≡ count_declarations e.declarations
+  pub needs : (a b : ℕ) → Needs g a b ↔ UsesOf (bound_from 0 e.declarations) e.uses a b
+
+-- the order of the values of a block that has ended, if none of them needs itself
+abbrev pub HasOrder : Ended → List ℕ → Type 0
+HasOrder e order = (g : Nodes) → HasNeeds e g → NoValueReachesItself g (values_in e.declarations) → order ≡ order_of g (values_in e.declarations)
+
+-- the blocks that have ended have these orders
+abbrev pub HaveOrders : List Ended → List (List ℕ) → Type 0
+HaveOrders [] [] = Unit {0}
+HaveOrders [] (order ∷ orders) = ⊥
+HaveOrders (e ∷ es) [] = ⊥
+HaveOrders (e ∷ es) (order ∷ orders) = HasOrder e order × HaveOrders es orders
+
 -- nothing is said of events that are not those of a text
 abbrev pub Describes : Walk → State → Type 0
 Describes w lost = Unit {0}
-Describes w (going fs es) = InScope fs w.scope w.frames × HasFound es w.found
+Describes w (going fs es) = InScope fs w.scope w.frames × HasFound es w.found × HaveOrders es w.orders

@@ -10,3 +10,4 @@ pub mod Bind
 pub mod Values
 pub mod Uses
 pub mod Agrees
+pub mod Orders

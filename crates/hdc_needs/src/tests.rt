@@ -1,6 +1,6 @@
-//! Local values that need themselves, and others that do not.
+//! Local values that need themselves, others that do not, and the order of their evaluation.
 
-use super::find_needy;
+use super::{find_needy, find_orders};
 use hdc_base::{At, Text};
 use hdc_tree::{
     Aexp, Apat, Apply, Block, Decl, Expression, Head, ModuleHead, Name, NextDecl, Operand, Rhs,
@@ -92,15 +92,19 @@ fn text(alloc: Global, first: Decl, rest: Items<NextDecl>) -> Result<Top, Fail> 
     Ok(Top::Equation(head, right))
 }
 
-// The place of the first value that needs itself in it.
-fn needy(alloc: Global, first: Decl, rest: Items<NextDecl>) -> Result<Option<Breach>, Fail> {
-    let tree = Tree {
+fn tree(alloc: Global, first: Decl, rest: Items<NextDecl>) -> Result<Tree, Fail> {
+    Ok(Tree {
         head: Boxed::new(alloc, ModuleHead::Absent)?,
         open_at: at(1),
         first: Boxed::new(alloc, text(alloc, first, rest)?)?,
         rest: Items::new(alloc),
         close_at: at(1),
-    };
+    })
+}
+
+// The place of the first value that needs itself in it.
+fn needy(alloc: Global, first: Decl, rest: Items<NextDecl>) -> Result<Option<Breach>, Fail> {
+    let tree = tree(alloc, first, rest)?;
     Ok(find_needy(alloc, &tree)?.breach)
 }
 
@@ -163,5 +167,27 @@ fn first_of_two_bindings_is_needed(rt: HostRuntime) -> Result<(), Fail> {
     next(&mut rest, value(alloc, 7, "b", variable(alloc, 8, "f")?)?)?;
     let found = needy(alloc, first, rest)?;
     assert_eq!(rt; found, rule_11(3));
+    Ok(())
+}
+
+// `a = g`, `g _ = c`, `b = x`, `c = x`. Each of their right sides has a block of its own, without declarations.
+#[test]
+fn needs_of_functions_come_first(rt: HostRuntime) -> Result<(), Fail> {
+    let alloc = rt.alloc();
+    let first = value(alloc, 3, "a", variable(alloc, 4, "g")?)?;
+    let mut rest = Items::new(alloc);
+    next(
+        &mut rest,
+        function(alloc, 5, "g", variable(alloc, 6, "c")?)?,
+    )?;
+    next(&mut rest, value(alloc, 7, "b", variable(alloc, 8, "x")?)?)?;
+    next(&mut rest, value(alloc, 9, "c", variable(alloc, 10, "x")?)?)?;
+    let tree = tree(alloc, first, rest)?;
+    let orders = find_orders(alloc, &tree)?;
+    assert_eq!(rt; orders.len(), 5);
+    if orders.len() == 5 {
+        assert_eq!(rt; orders.order(0).len(), 0);
+        assert_eq!(rt; orders.order(4), [2, 3, 0].as_slice());
+    }
     Ok(())
 }

@@ -30,7 +30,8 @@ pub(crate) fn note_needy(
     note_values(found, components.cyclic.as_slice(), block.declarations)
 }
 
-const MOST_NODES: usize = 4_294_967_296;
+/// As many nodes as `u32` has numbers.
+pub(crate) const MOST_NODES: usize = 4_294_967_296;
 
 #[tactic(auto, using(hdc_written::proofs::ExpressionMirror::mirrored_expressions, hdc_written::proofs::FirstBreach::in_order))]
 fn note_values(found: &mut Found, cyclic: &[bool], block: Option<&Block>) -> Result<(), AllocError>
@@ -61,7 +62,8 @@ fn note_next_values(
     Ok(())
 }
 
-fn is_set(cyclic: &[bool], number: u32) -> bool
+/// What stands at a number, or false.
+pub(crate) fn is_set(cyclic: &[bool], number: u32) -> bool
     ensures { result ≡ slice_index_or cyclic.now number false }
 {
     if (number as usize) < cyclic.len() {
@@ -85,9 +87,9 @@ fn note_value(found: &mut Found, needs_itself: bool, part: &Decl)
     }
 }
 
-// The first token of a declaration that is a value.
+/// The first token of a declaration that is a value.
 #[tactic(auto, using(hdc_written::proofs::ExpressionMirror::mirrored_expressions))]
-fn first_of_value(part: &Decl) -> Option<At>
+pub(crate) fn first_of_value(part: &Decl) -> Option<At>
     ensures { result ≡ value_at (mirror.decl_of part.now) }
 {
     match part {

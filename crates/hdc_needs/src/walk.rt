@@ -9,19 +9,22 @@ ghost use Rattle.hdc_needs.specs.Kept.{declarations_of};
 ghost use Rattle.hdc_needs.specs.Walk as spec;
 
 use crate::bind::{Target, bind_names, start_graph};
+use crate::block_order::block_order;
 use crate::frames::{Frame, Frames, OpenBlock};
 use crate::names::bound_names;
+use crate::orders::Orders;
 use crate::values::note_needy;
 use hdc_tree::{Block, Name, NextTop, Top, Tree};
 use hdc_written::{Event, Events, Found, Scope, equation_events};
 use std::alloc::{AllocError, Global};
 
-/// What is in scope, and the first breach found.
+/// What is in scope, the first breach found, and the orders of the blocks that have ended.
 #[derive(Drop)]
 pub(crate) struct Walk<'t> {
     pub(crate) scope: Scope<'t, Target>,
     pub(crate) frames: Frames<'t>,
     pub(crate) found: Found,
+    pub(crate) orders: Orders,
 }
 
 impl<'t> Walk<'t> {
@@ -33,6 +36,7 @@ impl<'t> Walk<'t> {
             scope: Scope::new(alloc),
             frames: Frames::new(alloc),
             found: Found::nothing(),
+            orders: Orders::new(alloc),
         }
     }
 
@@ -180,7 +184,10 @@ impl<'t> Walk<'t> {
             Some(frame) => {
                 self.scope.leave(frame.size);
                 match frame.block {
-                    Some(block) => note_needy(alloc, &mut self.found, &block),
+                    Some(block) => {
+                        note_needy(alloc, &mut self.found, &block)?;
+                        self.orders.push(block_order(alloc, &block)?)
+                    }
                     None => Ok(()),
                 }
             }

@@ -4,9 +4,9 @@ ghost use Rattle.std.specs.Prelude.{◌≡◌, [], ◌∷◌, ◌++◌, IfOk, On
 ghost use Rattle.hdc_arithmetic.specs.Tree.{tree_of};
 ghost use Rattle.hdc_top.specs.Code.{CarriesMeaning, exp_code};
 
+use hdc_arithmetic::Exp;
 use hdc_base::{Place, Src, Want};
 use hdc_code::{Instr, Instrs};
-use hdc_arithmetic::Exp;
 use std::alloc::{AllocError, Global};
 
 /// The code of the program with this tree.

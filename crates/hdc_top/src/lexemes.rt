@@ -9,8 +9,8 @@ ghost use Rattle.hdc_arithmetic.specs.Reading.{key_word, operator_word, token_of
 ghost use Rattle.hdc_top.specs.Results.{Finds, IsBetween};
 
 use crate::reader::ReadStop;
-use hdc_base::{Key, Token as Lexeme, Word as LexemeWord};
 use hdc_arithmetic::{Token, Word};
+use hdc_base::{Key, Token as Lexeme, Word as LexemeWord};
 use hdc_value::Op;
 use std::alloc::Global;
 

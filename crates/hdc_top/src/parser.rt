@@ -12,8 +12,8 @@ ghost use Rattle.hdc_top.specs.Results.{Reads};
 ghost use Rattle.hdc_top.specs.Parsing.{waiting_of, pending_of, levels_of, progress_of, Advances};
 
 use crate::reader::ReadStop;
-use hdc_base::At;
 use hdc_arithmetic::{Exp, Token, Word};
+use hdc_base::At;
 use hdc_value::Op;
 use std::alloc::{AllocError, Global};
 

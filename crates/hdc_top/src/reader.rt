@@ -9,11 +9,11 @@ use crate::lexemes::{arithmetic, between_braces};
 use crate::names::{NamesStop, check_names};
 use crate::parser::parse;
 use crate::prelude::prelude_tree;
+use hdc_arithmetic::Exp;
 use hdc_base::{At, Kind, Limit, Refusal, Stop, Token, Tokens, Which};
 use hdc_layout::{LayoutStop, lay_out};
 use hdc_lex::{Form, LexStop, end_of, lex};
 use hdc_parse::ParseStop;
-use hdc_arithmetic::Exp;
 use hdc_tree::Tree;
 use std::alloc::{AllocError, AllocFailed, Global};
 

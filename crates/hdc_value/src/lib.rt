@@ -11,4 +11,4 @@ mod ty;
 
 pub use arithmetic::{Op, arith};
 pub use outcome::{Outcome, Trap, TrapKind, Value};
-pub use ty::{Con, Cons, DataDef, Datas, Ty, Tys};
+pub use ty::{Con, Cons, DataDef, Datas, FlatType, Ty, TypeNode, Tys};

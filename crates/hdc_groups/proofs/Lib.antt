@@ -1,0 +1,4 @@
+pub mod Listing
+pub mod Members
+pub mod Loops
+pub mod Closed

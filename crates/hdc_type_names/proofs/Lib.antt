@@ -1,0 +1,3 @@
+pub mod TypeLists
+pub mod Listing
+pub mod Written
