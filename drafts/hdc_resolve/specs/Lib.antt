@@ -1,0 +1,14 @@
+pub mod Standing
+pub mod Numbering
+pub mod Literals
+pub mod Patterns
+pub mod Grouped
+pub mod Placing
+pub mod Uses
+pub mod Resolving
+pub mod Growths
+pub mod Blocks
+pub mod Named
+pub mod Tops
+pub mod Defined
+pub mod Law

@@ -1,0 +1,4 @@
+pub mod Entering
+pub mod Chains
+pub mod Wrapping
+pub mod Patterns
