@@ -1,8 +1,0 @@
-use Rattle.std.proofs.Common.{◌≡◌, ◌++◌, length}
-use Rattle.hdc_resolve.proofs.pile.Pile.of.Given as goal
-
-abbrev pub invariant-loop-item : goal.invariant-loop-item
-invariant-loop-item g l = l.items ≡ l.rest ++ l.pile
-
-abbrev pub decreases-loop-item : goal.decreases-loop-item
-decreases-loop-item g l = length l.rest

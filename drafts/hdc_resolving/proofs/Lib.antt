@@ -1,4 +1,0 @@
-pub mod Entering
-pub mod Chains
-pub mod Wrapping
-pub mod Patterns
