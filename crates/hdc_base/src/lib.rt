@@ -1,4 +1,4 @@
-//! What every layer speaks of: places, refusals and limits, and the two ways to the outside.
+//! What every layer speaks of: places, skeletons, refusals and limits, and the two ways to the outside.
 //!
 //! A text comes in through a `Store` and a report goes out through a `Sink`. Both are traits, so
 //! that the compiler is proved over any of them. Their contracts say what was read and taken, where
@@ -16,6 +16,7 @@ mod mem_store;
 mod outside;
 mod place;
 mod refusal;
+mod skeleton;
 mod std_sink;
 mod text;
 mod token;
@@ -26,6 +27,7 @@ pub use mem_store::MemStore;
 pub use outside::{Load, Put, Sink, Store};
 pub use place::{At, Place, Src};
 pub use refusal::{Kind, Limit, Refusal, Stop, Want, Which};
+pub use skeleton::SkelKind;
 pub use std_sink::StdSink;
 pub use text::{Calls, Runes, Text, Texts};
 pub use token::{Key, Token, Tokens, Word};

@@ -109,7 +109,7 @@ abbrev mutual
   pattern_nodes d (pattern_in_parentheses a p) = pattern_nodes d p
   pattern_nodes d (tuple_pattern a ps) = node d a ∷ each_pattern_nodes (suc d) ps
   pattern_nodes d (list_pattern a ps) = node d a ∷ each_pattern_nodes (suc d) ps
-  pattern_nodes d (cons_pattern p ps) = joined d (first_of_pattern p) (follow ps) ++ (pattern_nodes (below d (follow ps)) p ++ cons_nodes (suc d) ps)
+  pattern_nodes d (cons_pattern p colons ps) = joined d (first_of_pattern p) (follow ps) ++ (pattern_nodes (below d (follow ps)) p ++ cons_nodes (suc d) ps)
 
   pub each_pattern_nodes : ℕ → Patterns → List Site
   each_pattern_nodes d no_pattern = []

@@ -188,7 +188,7 @@ mutual
   quiet_matches (pattern_in_parentheses a p) fs done = quiet_matches p fs done
   quiet_matches (tuple_pattern a ps) fs done = quiet_each_matches ps fs done
   quiet_matches (list_pattern a ps) fs done = quiet_each_matches ps fs done
-  quiet_matches (cons_pattern p ps) fs done = run_joined (matches p) (each_matches ps) (going fs done) ∙ ap (run (each_matches ps)) (quiet_matches p fs done) ∙ quiet_each_matches ps fs done
+  quiet_matches (cons_pattern p colons ps) fs done = run_joined (matches p) (each_matches ps) (going fs done) ∙ ap (run (each_matches ps)) (quiet_matches p fs done) ∙ quiet_each_matches ps fs done
 
   quiet_each_matches : (ps : Patterns) → IsSilent (each_matches ps)
   quiet_each_matches no_pattern fs done = refl

@@ -44,9 +44,9 @@ pub pat_lit : (at : Place) (l : Literal) → pattern_of (p.Lit at l) ≡ literal
 unfolding pattern_of
 pat_lit at l = ap pattern_of (sym (p.rolls-Lit at l)) ∙ fold-roll-Pat Pattern pattern_step (Pat-F.Lit at l)
 
-pub pat_con : (at : Place) (c : Option Constructor) (ps : List Pat) → pattern_of (p.Con at c ps) ≡ built at c (patterns (map pattern_of ps))
+pub pat_con : (at own : Place) (c : Option Constructor) (ps : List Pat) → pattern_of (p.Con at own c ps) ≡ built at own c (patterns (map pattern_of ps))
 unfolding pattern_of
-pat_con at c ps = ap pattern_of (sym (p.rolls-Con at c ps)) ∙ fold-roll-Pat Pattern pattern_step (Pat-F.Con at c ps)
+pat_con at own c ps = ap pattern_of (sym (p.rolls-Con at own c ps)) ∙ fold-roll-Pat Pattern pattern_step (Pat-F.Con at own c ps)
 
 pub pat_row : (at : Place) (k : RowKind) (ps : List Pat) → pattern_of (p.Row at k ps) ≡ row_pattern at k (patterns (map pattern_of ps))
 unfolding pattern_of

@@ -27,7 +27,7 @@ pattern_step (Pat-F.Any at) = anything at
 pattern_step (Pat-F.Var at x) = variable at x
 pattern_step (Pat-F.As at x p) = named_as at x p
 pattern_step (Pat-F.Lit at l) = literal_pattern at l
-pattern_step (Pat-F.Con at c ps) = built at c (patterns ps)
+pattern_step (Pat-F.Con at own c ps) = built at own c (patterns ps)
 pattern_step (Pat-F.Row at kind ps) = row_pattern at kind (patterns ps)
 
 unfoldable pub pattern_of : Pat → Pattern

@@ -16,7 +16,8 @@ mutual
     variable : Place → (x : ℕ) → Pattern
     named_as : Place → (x : ℕ) → Pattern → Pattern
     literal_pattern : Place → Literal → Pattern
-    built : Place → Option Constructor → Patterns → Pattern
+    -- a constructor, with its own place too
+    built : Place → (own : Place) → Option Constructor → Patterns → Pattern
     row_pattern : Place → RowKind → Patterns → Pattern
 
   pub data Patterns : Type 0 where

@@ -14,7 +14,7 @@ mod type_exp;
 
 pub use expression::{Alt, Block, Exp, Guard, Member, Quals, Rhs, Signature, SignedName};
 pub use name::{
-    Constructor, Degree, Family, Literal, Name, Numbers, Primitive, RowKind, Side, SkelKind, Use,
+    Constructor, Degree, Family, Literal, Name, Numbers, Primitive, RowKind, Side, Use,
 };
 pub use pattern::Pat;
 pub use program::{Decl, Resolved, Synonym};

@@ -1,6 +1,6 @@
 //! Names by what they stand for, and literals.
 
-use hdc_base::{Place, Runes};
+use hdc_base::{Place, Runes, SkelKind};
 use sqlite_items::Items;
 
 /// A list of numbers.
@@ -44,15 +44,6 @@ pub struct Constructor {
     pub family: Family,
     pub tag: u32,
     pub fields: u32,
-}
-
-/// The kind of a skeleton.
-#[derive(Clone, Copy, Debug, PartialEq, Eq)]
-pub enum SkelKind {
-    Gen,
-    Deg,
-    Depth,
-    Elem,
 }
 
 /// What stands directly behind the name of a skeleton. A literal there is no argument of the name.

@@ -16,8 +16,9 @@ pub enum Pat {
     As(Place, u32, Boxed<Pat>),
     /// A literal, which is negative behind a `-`.
     Lit(Place, Literal),
-    /// A constructor and its arguments; none where the rules on names refuse it.
-    Con(Place, Option<Constructor>, Items<Pat>),
+    /// A constructor with its own place, which for `:` is behind its first argument, and its
+    /// arguments; none where the rules on names refuse it.
+    Con(Place, Place, Option<Constructor>, Items<Pat>),
     /// Members in parentheses or brackets.
     Row(Place, RowKind, Items<Pat>),
 }

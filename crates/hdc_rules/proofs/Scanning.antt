@@ -119,7 +119,7 @@ mutual
   ran_matches k (pattern_in_parentheses a p) s = ran_matches k p s
   ran_matches k (tuple_pattern a ps) s = ran_each_matches k ps s
   ran_matches k (list_pattern a ps) s = ran_each_matches k ps s
-  ran_matches k (cons_pattern p ps) s = and_then k (matches p) (each_matches ps) s (pattern_breaches k.constructors p) (λ v. each_pattern_breaches k.constructors ps) (ran_matches k p s) (ran_each_matches k ps)
+  ran_matches k (cons_pattern p colons ps) s = and_then k (matches p) (each_matches ps) s (pattern_breaches k.constructors p) (λ v. each_pattern_breaches k.constructors ps) (ran_matches k p s) (ran_each_matches k ps)
 
   ran_each_matches : (k : Known) (ps : Patterns) (s : Scan) → run k (each_matches ps) s ≡ note_all (each_pattern_breaches k.constructors ps) s
   ran_each_matches k no_pattern s = refl

@@ -39,7 +39,7 @@ abbrev mutual
   pattern_breaches cs (pattern_in_parentheses a p) = pattern_breaches cs p
   pattern_breaches cs (tuple_pattern a ps) = each_pattern_breaches cs ps
   pattern_breaches cs (list_pattern a ps) = each_pattern_breaches cs ps
-  pattern_breaches cs (cons_pattern p ps) = pattern_breaches cs p ++ each_pattern_breaches cs ps
+  pattern_breaches cs (cons_pattern p colons ps) = pattern_breaches cs p ++ each_pattern_breaches cs ps
 
   pub each_pattern_breaches : Counted → Patterns → List Breach
   each_pattern_breaches cs no_pattern = []

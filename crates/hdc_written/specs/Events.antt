@@ -47,7 +47,7 @@ abbrev mutual
   matches (pattern_in_parentheses a p) = matches p
   matches (tuple_pattern a ps) = each_matches ps
   matches (list_pattern a ps) = each_matches ps
-  matches (cons_pattern p ps) = matches p ++ each_matches ps
+  matches (cons_pattern p colons ps) = matches p ++ each_matches ps
 
   pub each_matches : Patterns → List Event
   each_matches no_pattern = []

@@ -39,7 +39,7 @@ first_of_pattern (nil_pattern a) = a
 first_of_pattern (pattern_in_parentheses a p) = a
 first_of_pattern (tuple_pattern a ps) = a
 first_of_pattern (list_pattern a ps) = a
-first_of_pattern (cons_pattern p ps) = first_of_pattern p
+first_of_pattern (cons_pattern p colons ps) = first_of_pattern p
 
 abbrev pub first_of_type : WrittenType → At
 first_of_type (type_constructor c ts) = c.at

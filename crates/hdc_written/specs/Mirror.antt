@@ -53,7 +53,20 @@ abbrev pub all_patterns : List Pattern → Patterns
 all_patterns [] = no_pattern
 all_patterns (p ∷ ps) = pattern p (all_patterns ps)
 
-abbrev pub apat_step : Apat-F Pattern Pattern Pattern Pattern Pattern → Pattern
+-- a pattern behind a :
+pub record Consed : Type 0 where
+  pub colon : At
+  pub pat : Pattern
+
+abbrev pub all_colons : List Consed → List At
+all_colons [] = []
+all_colons (c ∷ cs) = c.colon ∷ all_colons cs
+
+abbrev pub all_consed : List Consed → Patterns
+all_consed [] = no_pattern
+all_consed (c ∷ cs) = pattern c.pat (all_consed cs)
+
+abbrev pub apat_step : Apat-F Pattern Pattern Pattern Consed Pattern → Pattern
 apat_step (Apat-F.Var x) = named x
 apat_step (Apat-F.As x a p) = named_as x p
 apat_step (Apat-F.Wildcard a) = anything a
@@ -65,34 +78,37 @@ apat_step (Apat-F.Paren a p b) = pattern_in_parentheses a p
 apat_step (Apat-F.Tuple a p ps b) = tuple_pattern a (pattern p (all_patterns ps))
 apat_step (Apat-F.List a p ps b) = list_pattern a (pattern p (all_patterns ps))
 
-abbrev pub left_pat_step : LeftPat-F Pattern Pattern Pattern Pattern Pattern → Pattern
+abbrev pub left_pat_step : LeftPat-F Pattern Pattern Pattern Consed Pattern → Pattern
 left_pat_step (LeftPat-F.Plain p) = p
 left_pat_step (LeftPat-F.Applied c p ps) = built c (pattern p (all_patterns ps))
 left_pat_step (LeftPat-F.Negative a b n) = negative_pattern a b n
 
-abbrev pub comma_pat_step : CommaPat-F Pattern Pattern Pattern Pattern Pattern → Pattern
+abbrev pub comma_pat_step : CommaPat-F Pattern Pattern Pattern Consed Pattern → Pattern
 comma_pat_step part = part.pat
 
-abbrev pub cons_pat_step : ConsPat-F Pattern Pattern Pattern Pattern Pattern → Pattern
-cons_pat_step part = part.pat
+abbrev pub cons_pat_step : ConsPat-F Pattern Pattern Pattern Consed Pattern → Consed
+cons_pat_step part = record { colon = part.colon; pat = part.pat }
 
-abbrev pub pat_step : Pat-F Pattern Pattern Pattern Pattern Pattern → Pattern
-pat_step part = cons_pattern part.first (all_patterns part.rest)
+abbrev pub pat_step : Pat-F Pattern Pattern Pattern Consed Pattern → Pattern
+pat_step part = cons_pattern part.first (all_colons part.rest) (all_consed part.rest)
 
 abbrev pub apat_of : Apat → Pattern
-apat_of = fold-Apat Pattern Pattern Pattern Pattern Pattern apat_step left_pat_step comma_pat_step cons_pat_step pat_step
+apat_of = fold-Apat Pattern Pattern Pattern Consed Pattern apat_step left_pat_step comma_pat_step cons_pat_step pat_step
 
 abbrev pub left_pat_of : LeftPat → Pattern
-left_pat_of = fold-LeftPat Pattern Pattern Pattern Pattern Pattern apat_step left_pat_step comma_pat_step cons_pat_step pat_step
+left_pat_of = fold-LeftPat Pattern Pattern Pattern Consed Pattern apat_step left_pat_step comma_pat_step cons_pat_step pat_step
 
 abbrev pub comma_pat_of : CommaPat → Pattern
-comma_pat_of = fold-CommaPat Pattern Pattern Pattern Pattern Pattern apat_step left_pat_step comma_pat_step cons_pat_step pat_step
+comma_pat_of = fold-CommaPat Pattern Pattern Pattern Consed Pattern apat_step left_pat_step comma_pat_step cons_pat_step pat_step
+
+abbrev pub consed_of : ConsPat → Consed
+consed_of = fold-ConsPat Pattern Pattern Pattern Consed Pattern apat_step left_pat_step comma_pat_step cons_pat_step pat_step
 
 abbrev pub cons_pat_of : ConsPat → Pattern
-cons_pat_of = fold-ConsPat Pattern Pattern Pattern Pattern Pattern apat_step left_pat_step comma_pat_step cons_pat_step pat_step
+cons_pat_of part = (consed_of part).pat
 
 abbrev pub pat_of : Pat → Pattern
-pat_of = fold-Pat Pattern Pattern Pattern Pattern Pattern apat_step left_pat_step comma_pat_step cons_pat_step pat_step
+pat_of = fold-Pat Pattern Pattern Pattern Consed Pattern apat_step left_pat_step comma_pat_step cons_pat_step pat_step
 
 -- a condition and what it guards, behind a bar, and an operand with its sign and the operator behind it
 pub record Guarded : Type 0 where

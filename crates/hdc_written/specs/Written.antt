@@ -23,8 +23,8 @@ mutual
     pattern_in_parentheses : At → Pattern → Pattern
     tuple_pattern : At → Patterns → Pattern
     list_pattern : At → Patterns → Pattern
-    -- patterns with : between them
-    cons_pattern : Pattern → Patterns → Pattern
+    -- patterns with : between them, and where each : stands
+    cons_pattern : Pattern → List At → Patterns → Pattern
 
   pub data Patterns : Type 0 where
     no_pattern : Patterns
@@ -122,7 +122,7 @@ abbrev mutual
   variables (pattern_in_parentheses a p) = variables p
   variables (tuple_pattern a ps) = all_variables ps
   variables (list_pattern a ps) = all_variables ps
-  variables (cons_pattern p ps) = variables p ++ all_variables ps
+  variables (cons_pattern p colons ps) = variables p ++ all_variables ps
 
   pub all_variables : Patterns → List Name
   all_variables no_pattern = []
