@@ -1,0 +1,5 @@
+pub mod Entering
+pub mod Members
+pub mod Chains
+pub mod Wrapping
+pub mod Patterns

@@ -1,0 +1,11 @@
+pub mod Standing
+pub mod Numbering
+pub mod Literals
+pub mod Grouped
+pub mod Placing
+pub mod Uses
+pub mod Locals
+pub mod Growths
+pub mod Parts
+pub mod Named
+pub mod Patterns
