@@ -1,0 +1,5 @@
+pub mod Expanded
+pub mod Needs
+pub mod Datas
+pub mod Settled
+pub mod Closures
