@@ -1,5 +1,6 @@
 -- Patterns in a list.
 use Rattle.std.proofs.Common.{◌≡◌, ℕ, zero, suc, ◌+◌, ◌<◌, List, [], ◌∷◌, ◌++◌, Option, Some, length, map, take, drop, get_or, refl, sym, ap, ◌∙◌, arith}
+use Rattle.std.proofs.lemmas.List.{length-map}
 use Rattle.hdc_base.specs.declared.place.At.{At}
 use Rattle.hdc_written.specs.Firsts.{first_of_pattern}
 use Rattle.hdc_resolved.specs.Syntax as resolved
@@ -33,12 +34,8 @@ resolved_count : {A : Type 0} (f : A → Pattern) (xs : List A) (k : Known) (nam
 resolved_count f [] k names = refl
 resolved_count f (x ∷ xs) k names = ap suc (resolved_count f xs k names)
 
-map_count : {A B : Type 0} (f : A → B) (xs : List A) → length (map f xs) ≡ length xs
-map_count f [] = refl
-map_count f (x ∷ xs) = ap suc (map_count f xs)
-
 pub as_many : {A : Type 0} (f : A → Pattern) (parts : List A) (pats : List Pat) (k : Known) (names : Names) → map pattern_of pats ≡ each_resolved (each_pattern f parts) k names → length parts ≡ length pats
-as_many f parts pats k names e = sym (resolved_count f parts k names) ∙ ap length (sym e) ∙ map_count pattern_of pats
+as_many f parts pats k names e = sym (resolved_count f parts k names) ∙ ap length (sym e) ∙ length-map pats pattern_of
 
 -- the last of the first items of a list is taken away
 pub record IsTaken {A : Type 0} (i : ℕ) (items left : List A) (last : A) : Type 0 where
