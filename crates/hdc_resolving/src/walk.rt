@@ -1,6 +1,6 @@
 //! What is in scope, and what is counted.
 
-ghost use Rattle.std.specs.Prelude.{◌≡◌, ◌++◌, [], ◌∷◌, OnOk, IfOk, length};
+ghost use Rattle.std.specs.Prelude.{◌≡◌, ◌<◌, ◌^◌, ◌++◌, [], ◌∷◌, OnOk, IfOk, IsOk, length, suc};
 ghost use Rattle.hdc_resolving.specs.Numbering as spec;
 
 use crate::known::Known;
@@ -36,7 +36,8 @@ pub struct Sizes {
 impl Counter {
     /// One number more is taken, if there is one.
     pub fn count(self) -> Result<Counter, AllocError>
-        ensures { IfOk result (λ counter. counter ≡ spec.counted self) }
+        ensures room { suc self.numbers < 2 ^ 32 → IsOk result }
+        ensures what { IfOk result (λ counter. counter ≡ spec.counted self) }
     {
         match self.numbers.checked_add(1) {
             Some(numbers) => Ok(Counter {
@@ -49,7 +50,8 @@ impl Counter {
 
     /// One block more has ended, if it has a number.
     pub fn end_block(self) -> Result<Counter, AllocError>
-        ensures { IfOk result (λ counter. counter ≡ spec.ended self) }
+        ensures room { suc self.blocks < 2 ^ 32 → IsOk result }
+        ensures what { IfOk result (λ counter. counter ≡ spec.ended self) }
     {
         match self.blocks.checked_add(1) {
             Some(blocks) => Ok(Counter {
@@ -94,6 +96,7 @@ impl<'t> Walk<'t> {
 
     /// A number is taken, which no name has.
     pub fn take_number(&mut self) -> Result<u32, AllocError>
+        ensures room { suc self.old.counter.numbers < 2 ^ 32 → IsOk result }
         ensures number { IfOk result (λ number. number ≡ self.old.counter.numbers) }
         ensures moved { OnOk result (self.new ≡ spec.moved (spec.counted self.old.counter) self.old) }
     {
@@ -104,7 +107,8 @@ impl<'t> Walk<'t> {
 
     /// A block has ended.
     pub fn end_block(&mut self) -> Result<(), AllocError>
-        ensures { OnOk result (self.new ≡ spec.moved (spec.ended self.old.counter) self.old) }
+        ensures room { suc self.old.counter.blocks < 2 ^ 32 → IsOk result }
+        ensures moved { OnOk result (self.new ≡ spec.moved (spec.ended self.old.counter) self.old) }
     {
         self.counter = self.counter.end_block()?;
         Ok(())

@@ -16,7 +16,7 @@ mod synonyms;
 mod tests;
 mod type_name;
 
-pub use naming::{bind_prelude_types, bind_program_types};
+pub use naming::{Naming, bind_prelude_types, bind_program_types};
 pub use parameters::{bind_parameters, place_of};
 pub use resolve::resolve_field;
 pub use signature::resolve_signature_type;

@@ -1,6 +1,6 @@
 //! The names of types are bound.
 
-ghost use Rattle.std.specs.Prelude.{◌≡◌, suc, OnOk, IfOk};
+ghost use Rattle.std.specs.Prelude.{◌≡◌, ◌<◌, ◌^◌, suc, OnOk, IfOk, IsOk};
 ghost use Rattle.hdc_written.specs.Mirror as mirror;
 ghost use Rattle.hdc_type_names.specs.TypeNames as spec;
 
@@ -45,10 +45,10 @@ pub fn bind_program_types<'t>(
 
 /// The names that are bound so far, and the numbers of the next data type and of the next synonym.
 #[derive(Drop)]
-pub(crate) struct Naming<'t> {
-    names: Scope<'t, TypeName>,
-    datas: u32,
-    synonyms: u32,
+pub struct Naming<'t> {
+    pub names: Scope<'t, TypeName>,
+    pub datas: u32,
+    pub synonyms: u32,
 }
 
 impl<'t> Naming<'t> {
@@ -107,7 +107,8 @@ impl<'t> Naming<'t> {
 
 // The number behind this one.
 fn number_behind(number: u32) -> Result<u32, AllocError>
-    ensures { IfOk result (λ next. next ≡ suc number) }
+    ensures room { suc number < 2 ^ 32 → IsOk result }
+    ensures what { IfOk result (λ next. next ≡ suc number) }
 {
     match number.checked_add(1) {
         Some(next) => Ok(next),

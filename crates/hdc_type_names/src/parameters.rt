@@ -1,6 +1,6 @@
 //! The variables of heads.
 
-ghost use Rattle.std.specs.Prelude.{◌≡◌, IfOk};
+ghost use Rattle.std.specs.Prelude.{◌≡◌, ◌<◌, ◌^◌, IfOk, IsOk};
 ghost use Rattle.hdc_type_names.specs.Variables.{places_from};
 
 use hdc_tree::Name;
@@ -34,7 +34,8 @@ pub fn bind_parameters<'t>(
 ///
 /// `AllocError` where there are too many.
 pub fn place_of(count: usize) -> Result<u32, AllocError>
-    ensures { IfOk result (λ place. place ≡ count) }
+    ensures room { count < 2 ^ 32 → IsOk result }
+    ensures what { IfOk result (λ place. place ≡ count) }
 {
     match u32::try_from(count) {
         Ok(place) => Ok(place),
