@@ -39,7 +39,7 @@ returns-in_ok-push-in-Tuple c =
     on_ok_weaker c.push_all.result
     (put_root ss (type_in ss c.args.self.now c.args.environment (type_tree_of c.args.part.now)) c.args.nodes.now c.push-in-Tuple.new.self (node.Tuple c.in_ok-count-in-Tuple.count) c.args.self.now c.push_all.new.self c.in_ok-push-in-Tuple.ensures.ok
     (λ rs. types_in rs c.args.self.now c.args.environment (types (map type_tree_of c.as_slice.result.now)))
-    (root_tuple ss c.args.self.now c.args.environment c.args.part.now c.in-Tuple.members c.as_slice.result.now c.in_ok-count-in-Tuple.count c.in-Tuple.is (c.in_ok-count-in-Tuple.ensures ∙ c.len.ensures) c.as_slice.ensures))
+    (root_tuple ss c.args.self.now c.args.environment c.args.part.now c.in-Tuple.members c.as_slice.result.now c.in_ok-count-in-Tuple.count c.in-Tuple.is (c.in_ok-count-in-Tuple.ensures.what ∙ c.len.ensures) c.as_slice.ensures))
     c.push_all.ensures
 
 pub returns-in_ok-push-in-Fun-2 : goal.returns-in_ok-push-in-Fun-2
@@ -58,7 +58,7 @@ returns-in_ok-push-in-Data c =
     on_ok_weaker c.push_all-in-Data.result
     (put_root ss (type_in ss c.args.self.now c.args.environment (type_tree_of c.args.part.now)) c.args.nodes.now c.push-in-Data.new.self (node.Data c.in-Data.number c.in_ok-count-in-Data.count) c.args.self.now c.push_all-in-Data.new.self c.in_ok-push-in-Data.ensures.ok
     (λ rs. types_in rs c.args.self.now c.args.environment (types (map type_tree_of c.as_slice-in-Data.result.now)))
-    (root_data ss c.args.self.now c.args.environment c.args.part.now c.in-Data.number c.in-Data.arguments c.as_slice-in-Data.result.now c.in_ok-count-in-Data.count c.in-Data.is (c.in_ok-count-in-Data.ensures ∙ c.len-in-Data.ensures) c.as_slice-in-Data.ensures))
+    (root_data ss c.args.self.now c.args.environment c.args.part.now c.in-Data.number c.in-Data.arguments c.as_slice-in-Data.result.now c.in_ok-count-in-Data.count c.in-Data.is (c.in_ok-count-in-Data.ensures.what ∙ c.len-in-Data.ensures) c.as_slice-in-Data.ensures))
     c.push_all-in-Data.ensures
 
 pub returns-in-Synonym : goal.returns-in-Synonym
