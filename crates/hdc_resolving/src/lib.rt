@@ -31,8 +31,8 @@ pub use growing::{Current, Declared, Growing, block_of, goes_on, opened};
 pub use known::Known;
 pub use literals::{cons, literal_of};
 pub use names::{Numbering, construct_prelude, construct_tops, name_prelude, name_tops};
-pub use pile::Pile;
 pub use pattern::{resolve_head, resolve_one, resolve_params, resolve_pat};
+pub use pile::Pile;
 pub use quals::{Part, wrap_all};
 pub use signature::resolve_signature;
 pub use uses::{
