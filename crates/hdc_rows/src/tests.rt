@@ -4,5 +4,6 @@ mod chains;
 mod depths;
 mod job;
 mod outside;
+mod resolved;
 mod rows;
 mod trees;

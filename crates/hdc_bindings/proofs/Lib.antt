@@ -1,0 +1,12 @@
+pub mod Lists
+pub mod Declaring
+pub mod Qualifiers
+pub mod Equating
+pub mod Defining
+pub mod Texts
+pub mod Trees
+pub mod Congruence
+pub mod Variants
+pub mod Leaving
+pub mod Chaining
+pub mod RightSides
