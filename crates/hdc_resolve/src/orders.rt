@@ -35,11 +35,7 @@ fn add_orders(alloc: Global, tree: &Tree, orders: &mut Items<Numbers>) -> Result
 }
 
 // The same, once they are found.
-fn push_orders(
-    alloc: Global,
-    found: &Orders,
-    orders: &mut Items<Numbers>,
-) -> Result<(), AllocError>
+fn push_orders(alloc: Global, found: &Orders, orders: &mut Items<Numbers>) -> Result<(), AllocError>
     ensures { OnOk result (orders.new ≡ orders.old ++ found.now) }
 {
     for block in 0..found.len() {

@@ -4,7 +4,7 @@ use Rattle.std.specs.Prelude.{slice_get}
 use Rattle.std.specs.Option.{option_and_then}
 use Rattle.std.proofs.Math.Seq.{get_or-append_seam}
 use Rattle.std.proofs.lemmas.Option.{slice_get-get_or}
-use Rattle.hdc_base.specs.declared.place.At.{At}
+use Rattle.hdc_base.specs.declared.place.Place.{Place}
 use Rattle.hdc_value.specs.declared.arithmetic.Op.{Op}
 use Rattle.hdc_value.specs.declared.outcome.Value.{Value}
 use Rattle.hdc_value.specs.declared.outcome.Value.TheVariants as value
@@ -12,14 +12,14 @@ use Rattle.hdc_value.specs.declared.outcome.TrapKind.{TrapKind}
 use Rattle.hdc_value.specs.declared.outcome.Outcome.{Outcome}
 use Rattle.hdc_value.specs.declared.outcome.Outcome.TheVariants as outcome
 use Rattle.hdc_value.specs.Arithmetic.{arith_of}
-use Rattle.hdc_arithmetic.specs.Tree.{Tree, literal, binary, paren}
-use Rattle.hdc_arithmetic.specs.Meaning.{at_operator, apply, eval, meaning}
 use Rattle.hdc_code.specs.declared.instr.Instr.{Instr}
 use Rattle.hdc_code.specs.declared.instr.Instr.TheVariants as instr
 use Rattle.hdc_code.specs.Machine.{Config, running_at, ended_with, start, after_operator, execute, step, steps}
 use Rattle.hdc_code.specs.Sound.{EndsWith, CarriesAt}
 use Rattle.hdc_code.proofs.Paths.{path_sound, path_counts, same_end}
-use Rattle.hdc_top.specs.Code.{CarriesMeaning, in_program, exp_code}
+use Rattle.hdc_top.specs.Arithmetic.{Tree, literal, binary}
+use Rattle.hdc_top.specs.Meaning.{at_operator, apply, eval, meaning}
+use Rattle.hdc_top.specs.Code.{CarriesMeaning, exp_code}
 
 -- the unfolding of main, its expression, and the end
 abbrev pub program_code : Tree → List Instr
@@ -83,25 +83,25 @@ abbrev after : Outcome → ℕ → List Value → ℕ → Config
 after (outcome.Value v) place stack ticks = running_at place (v ∷ stack) ticks
 after (outcome.Trap t) place stack ticks = ended_with (outcome.Trap t) ticks
 
-operated : (at : At) (place : ℕ) (stack : List Value) (ticks : ℕ) (r : Result ℤ TrapKind) → after_operator (in_program at) place stack ticks r ≡ after (at_operator at r) (place + 1) stack ticks
+operated : (at : Place) (place : ℕ) (stack : List Value) (ticks : ℕ) (r : Result ℤ TrapKind) → after_operator at place stack ticks r ≡ after (at_operator at r) (place + 1) stack ticks
 operated at place stack ticks (Ok n) = refl
 operated at place stack ticks (Err kind) = refl
 
-binary_path : (code : List Instr) (op : Op) (at : At) (place middle last : ℕ) (stack : List Value) (ticks : ℕ) (a b : Outcome)
+binary_path : (code : List Instr) (op : Op) (at : Place) (place middle last : ℕ) (stack : List Value) (ticks : ℕ) (a b : Outcome)
     → Path code (running_at place stack ticks) (after a middle stack ticks)
     → ((v : Value) → Path code (running_at middle (v ∷ stack) ticks) (after b last (v ∷ stack) ticks))
-    → slice_get code last ≡ Some (instr.Prim op (in_program at))
+    → slice_get code last ≡ Some (instr.Prim op at)
     → Path code (running_at place stack ticks) (after (apply op at a b) (last + 1) stack ticks)
 binary_path code op at place middle last stack ticks (outcome.Trap t) b first second h = first
 binary_path code op at place middle last stack ticks (outcome.Value (value.Int m)) (outcome.Trap t) first second h = path_join code _ _ _ first (second (value.Int m))
 binary_path code op at place middle last stack ticks (outcome.Value (value.Int m)) (outcome.Value (value.Int n)) first second h =
-    let prim = executed code last (value.Int n ∷ value.Int m ∷ stack) ticks (instr.Prim op (in_program at)) _ h (ap Some (operated at last stack ticks (arith_of op m n))) in
+    let prim = executed code last (value.Int n ∷ value.Int m ∷ stack) ticks (instr.Prim op at) _ h (ap Some (operated at last stack ticks (arith_of op m n))) in
     path_join code _ _ _ first (path_join code _ _ _ (second (value.Int m)) prim)
 
 exp_path : (tree : Tree) (code : List Instr) (place : ℕ) (stack : List Value) (ticks : ℕ) → HasAt code place (exp_code tree) → Path code (running_at place stack ticks) (after (eval tree) (place + length (exp_code tree)) stack ticks)
 exp_path (literal at n) code place stack ticks has = executed code place stack ticks (instr.Int n) _ has.0 refl
 exp_path (binary op at a b) code place stack ticks has =
-    let prim = instr.Prim op (in_program at) ∷ [] in
+    let prim = instr.Prim op at ∷ [] in
     let ca = exp_code a in
     let cb = exp_code b in
     let back = has_back code place ca (cb ++ prim) has in
@@ -110,7 +110,6 @@ exp_path (binary op at a b) code place stack ticks has =
     let whole = binary_path code op at place (place + length ca) (place + length ca + length cb) stack ticks (eval a) (eval b) first (λ v. exp_path b code (place + length ca) (v ∷ stack) ticks (has_front code (place + length ca) cb prim back)) last.0 in
     let size : place + length ca + length cb + 1 ≡ place + length (exp_code (binary op at a b)) = omega (arith, length-append ca (cb ++ prim), length-append cb prim) in
     subst (λ n. Path code (running_at place stack ticks) (after (apply op at (eval a) (eval b)) n stack ticks)) size whole
-exp_path (paren o c e) code place stack ticks has = exp_path e code place stack ticks has
 
 -- the last instruction ends with the value
 ret_path : (code : List Instr) (place : ℕ) (o : Outcome) (ticks : ℕ) → slice_get code place ≡ Some instr.Ret → Path code (after o place [] ticks) (ended_with o ticks)

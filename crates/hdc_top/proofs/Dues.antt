@@ -17,13 +17,11 @@ use Rattle.hdc_lex.proofs.OneAnswer.{same_answer}
 use Rattle.hdc_layout.specs.LaidOut.{laid_out}
 use Rattle.hdc_tree.specs.declared.program.Top.{Top}
 use Rattle.hdc_tree.specs.declared.program.Tree as program
-use Rattle.hdc_arithmetic.specs.Program.{IsProgram}
 use Rattle.hdc_value.specs.declared.outcome.Outcome.{Outcome}
 use Rattle.hdc_value.specs.declared.outcome.Outcome.TheVariants as outcome
 use Rattle.hdc_value.specs.Answer.{Answer}
-use Rattle.hdc_arithmetic.specs.Tree.{Tree}
-use Rattle.hdc_arithmetic.specs.Meaning.{eval, meaning}
-use Rattle.hdc_arithmetic.proofs.Programs.{same_tree}
+use Rattle.hdc_top.specs.Arithmetic.{Tree}
+use Rattle.hdc_top.specs.Meaning.{eval, meaning}
 use Rattle.hdc_code.specs.declared.instr.Instr.{Instr}
 use Rattle.hdc_code.specs.Sound.{EndsWith}
 use Rattle.hdc_top.specs.declared.job.Due.{Due}
@@ -36,9 +34,12 @@ use Rattle.hdc_top.specs.declared.names.NamesStop.{NamesStop}
 use Rattle.hdc_top.specs.declared.names.NamesStop.TheVariants as checking
 use Rattle.hdc_written.specs.Mirror.{tops_of}
 use Rattle.hdc_top.specs.Names.{AreChecked}
+use Rattle.hdc_top.specs.Main.{main_tree}
+use Rattle.hdc_top.specs.Resolved.{AreBindings}
+use Rattle.hdc_top.proofs.Resolving.{bindings_once}
 use Rattle.hdc_top.proofs.OneNames.{answered_once}
 use Rattle.hdc_top.specs.Prelude.{HasTree, IsPrelude, stored, without}
-use Rattle.hdc_top.specs.Stopped.{most_bytes, lexer_stop, parser_stop, names_stop, refused_at, end_place, HasLayout, IsAsked, KeepsRules, SpellsLaid, SpellsTree, StopsLaid, syntax_at, nesting_at, names_at, not_built, LacksLayout, lexemes, layout, IsStopped, no_tokens, laid_tokens, IsRefused, NestsTooDeep, HasDeepTree, PassesLimit}
+use Rattle.hdc_top.specs.Stopped.{most_bytes, lexer_stop, parser_stop, names_stop, refused_at, end_place, HasLayout, IsAsked, ResolvesTo, MeansLaid, MeansTree, StopsWhole, names_at, not_built, StopsLaid, syntax_at, nesting_at, whole_at, LacksLayout, lexemes, layout, IsStopped, no_tokens, laid_tokens, IsRefused, NestsTooDeep, HasDeepTree, PassesLimit}
 use Rattle.hdc_top.specs.Report.{run_text, stop_text}
 use Rattle.hdc_top.specs.Words.{job_of, usage_text}
 use Rattle.hdc_top.specs.Due.{budget, too_long, status_of, stop_status, IsDueFor, long, stopped, ran, IsDue, usage, job, IsTold, IsDueFrom, IsFileText}
@@ -68,11 +69,14 @@ asked_want (checking.Depth at) told = λ e. cc
 asked_want (checking.Name b) told = λ e. cc
 asked_want checking.Want told = absurd (told refl)
 
+whole_want : (whole : program.Tree) (s : Stop) → StopsWhole whole s → s ≢ stop.Want
+whole_want whole _ (names_at s h told) = asked_want s told
+whole_want whole _ (not_built none) = λ e. cc
+
 laid_want : (laid : List Token) (end : At) (s : Stop) → StopsLaid laid end s → s ≢ stop.Want
 laid_want laid end _ (syntax_at at h) = λ e. cc
 laid_want laid end _ (nesting_at at h) = λ e. cc
-laid_want laid end _ (names_at whole s parsed h told) = asked_want s told
-laid_want laid end _ (not_built whole parsed has none) = λ e. cc
+laid_want laid end s (whole_at whole _ parsed why) = whole_want whole s why
 
 unlaid_want : (text : List ℕ) (s : Stop) → LacksLayout text s → s ≢ stop.Want
 unlaid_want text _ (lexemes s h told) = λ e. told (lexer_want s e)
@@ -100,7 +104,7 @@ pub due_written : (holds : List ℕ → Option (List ℕ)) (words : List (List �
 due_written holds words status bytes h = words_written words h.text status bytes h.due
 
 -- the report of a run of code that carries the meaning is due
-pub run_due : (text : List ℕ) (code : List Instr) (tree : Tree) (o : Outcome) (ticks : ℕ) → length text ≤ most_bytes → SpellsTree text tree → CarriesMeaning code tree → EndsWith code o ticks → IsDueFor text (status_of o) (run_text o ticks)
+pub run_due : (text : List ℕ) (code : List Instr) (tree : Tree) (o : Outcome) (ticks : ℕ) → length text ≤ most_bytes → MeansTree text tree → CarriesMeaning code tree → EndsWith code o ticks → IsDueFor text (status_of o) (run_text o ticks)
 run_due text code tree o ticks within program carries end =
     let same = (carries.each_budget budget).1 o ticks end in
     let due = ran tree (record { outcome = eval tree; unfoldings = 1 }) within program refl in
@@ -223,34 +227,51 @@ names_stop_once whole s t h g n m = err_inj (asked_once whole (Err s) (Err t) h 
     err_inj : ◌≡◌ {A = Result (Unit {0}) NamesStop} (Err s) (Err t) → s ≡ t
     err_inj e = cc
 
-asked_none : (whole : program.Tree) (s : NamesStop) → IsAsked whole (Err s) → (s ≡ checking.Want → ⊥) → KeepsRules whole → ⊥
-asked_none whole s h told all = clash (asked_once whole (Err s) (Ok tt) h all (err_want s told) (λ e. cc))
+-- where a program is resolved, the rules are kept
+resolved_asked : (whole : program.Tree) (read : Option Tree) → ResolvesTo whole read → IsAsked whole (Ok tt)
+resolved_asked whole read h = record { prelude = h.prelude; is = h.is; checked = h.keeps }
+
+asked_none : (whole : program.Tree) (s : NamesStop) (read : Option Tree) → IsAsked whole (Err s) → (s ≡ checking.Want → ⊥) → ResolvesTo whole read → ⊥
+asked_none whole s read h told all = clash (asked_once whole (Err s) (Ok tt) h (resolved_asked whole read all) (err_want s told) (λ e. cc))
   where
     clash : ◌≡◌ {A = Result (Unit {0}) NamesStop} (Err s) (Ok tt) → ⊥
     clash e = cc
 
--- the same of the tree that laid-out tokens spell
-asked_too : (laid : List Token) (r : Result (Unit {0}) NamesStop) (whole other : program.Tree) → IsParsed laid whole → IsParsed laid other → IsAsked whole r → IsAsked other r
-asked_too laid r whole other parsed again h = subst (λ t. IsAsked t r) (whole_once laid whole other parsed again) h
+-- a program has one tree, or none
+resolves_once : (whole : program.Tree) (a b : Option Tree) → ResolvesTo whole a → ResolvesTo whole b → a ≡ b
+resolves_once whole a b h g =
+    let same = prelude_once h.prelude g.prelude h.is g.is in
+    let are = subst (λ p. AreBindings (tops_of p) (tops_of whole) h.bindings) same h.are in
+    sym h.resolved ∙ ap (main_tree (tops_of whole)) (bindings_once (tops_of g.prelude) (tops_of whole) h.bindings g.bindings g.keeps.1 are g.are) ∙ g.resolved
+
+resolves_none : (whole : program.Tree) (tree : Tree) → ResolvesTo whole None → ResolvesTo whole (Some tree) → ⊥
+resolves_none whole tree h g = clash (resolves_once whole None (Some tree) h g)
+  where
+    clash : ◌≡◌ {A = Option Tree} None (Some tree) → ⊥
+    clash e = cc
+
+-- a program is stopped in one way, and one that is has no tree
+whole_stops_once : (whole : program.Tree) (s t : Stop) → StopsWhole whole s → StopsWhole whole t → s ≡ t
+whole_stops_once whole _ _ (names_at a h told) (names_at b g known) = ap names_stop (names_stop_once whole a b h g told known)
+whole_stops_once whole _ _ (names_at a h told) (not_built g) = absurd (asked_none whole a None h told g)
+whole_stops_once whole _ _ (not_built h) (names_at b g known) = absurd (asked_none whole b None g known h)
+whole_stops_once whole _ _ (not_built h) (not_built g) = refl
+
+whole_none : (whole : program.Tree) (s : Stop) (tree : Tree) → StopsWhole whole s → ResolvesTo whole (Some tree) → ⊥
+whole_none whole _ tree (names_at s h told) g = asked_none whole s (Some tree) h told g
+whole_none whole _ tree (not_built h) g = resolves_none whole tree h g
 
 -- laid-out tokens are stopped in one way
 laid_once : (laid : List Token) (end : At) (s t : Stop) → StopsLaid laid end s → StopsLaid laid end t → s ≡ t
 laid_once laid end _ _ (syntax_at a h) (syntax_at b g) = ap (λ at. parser_stop (parsing.Syntax at)) (syntax_once laid end a b h g)
 laid_once laid end _ _ (syntax_at a h) (nesting_at b g) = absurd (syntax_no_nesting laid end a b h g)
-laid_once laid end _ _ (syntax_at a h) (names_at whole b parsed lacks told) = absurd (parsed_no_syntax laid end a whole parsed h)
-laid_once laid end _ _ (syntax_at a h) (not_built whole parsed has none) = absurd (parsed_no_syntax laid end a whole parsed h)
+laid_once laid end _ _ (syntax_at a h) (whole_at whole t parsed g) = absurd (parsed_no_syntax laid end a whole parsed h)
 laid_once laid end _ _ (nesting_at a h) (syntax_at b g) = absurd (syntax_no_nesting laid end b a g h)
 laid_once laid end _ _ (nesting_at a h) (nesting_at b g) = ap (λ at. parser_stop (parsing.Nesting at)) (nesting_once laid end a b h g)
-laid_once laid end _ _ (nesting_at a h) (names_at whole b parsed lacks told) = absurd (parsed_no_nesting laid end a whole parsed h)
-laid_once laid end _ _ (nesting_at a h) (not_built whole parsed has none) = absurd (parsed_no_nesting laid end a whole parsed h)
-laid_once laid end _ _ (names_at whole a parsed lacks told) (syntax_at b g) = absurd (parsed_no_syntax laid end b whole parsed g)
-laid_once laid end _ _ (names_at whole a parsed lacks told) (nesting_at b g) = absurd (parsed_no_nesting laid end b whole parsed g)
-laid_once laid end _ _ (names_at whole a parsed lacks told) (names_at other b again g known) = ap names_stop (names_stop_once other a b (asked_too laid (Err a) whole other parsed again lacks) g told known)
-laid_once laid end _ _ (names_at whole a parsed lacks told) (not_built other again has none) = absurd (asked_none other a (asked_too laid (Err a) whole other parsed again lacks) told has)
-laid_once laid end _ _ (not_built whole parsed has none) (syntax_at b g) = absurd (parsed_no_syntax laid end b whole parsed g)
-laid_once laid end _ _ (not_built whole parsed has none) (nesting_at b g) = absurd (parsed_no_nesting laid end b whole parsed g)
-laid_once laid end _ _ (not_built whole parsed has none) (names_at other b again lacks told) = absurd (asked_none whole b (asked_too laid (Err b) other whole again parsed lacks) told has)
-laid_once laid end _ _ (not_built whole parsed has none) (not_built other again too nothing) = refl
+laid_once laid end _ _ (nesting_at a h) (whole_at whole t parsed g) = absurd (parsed_no_nesting laid end a whole parsed h)
+laid_once laid end _ _ (whole_at whole s parsed h) (syntax_at b g) = absurd (parsed_no_syntax laid end b whole parsed g)
+laid_once laid end _ _ (whole_at whole s parsed h) (nesting_at b g) = absurd (parsed_no_nesting laid end b whole parsed g)
+laid_once laid end _ _ (whole_at whole s parsed h) (whole_at other t again g) = whole_stops_once other s t (subst (λ w. StopsWhole w s) (whole_once laid whole other parsed again) h) g
 
 layout_stops_once : (r : Result (List Token) At) (end : At) (s t : Stop) → StopsLayout r end s → StopsLayout r end t → s ≡ t
 layout_stops_once (Ok laid) end s t h g = laid_once laid end s t h g
@@ -287,24 +308,29 @@ unlaid_none text _ laid (layout tokens at h e) g =
     let list = same_tokens tokens g.tokens (same_answer form.Program text (Ok tokens) (Ok g.tokens) h g.lexed (λ e. cc) (λ e. cc)) in
     no_layout at laid (sym e ∙ ap (λ ts. laid_out ts (end_place text)) list ∙ g.laid_out)
 
--- laid-out tokens that are stopped spell no tree
-laid_none : (laid : List Token) (end : At) (s : Stop) (tree : Tree) → StopsLaid laid end s → SpellsLaid laid tree → ⊥
+-- laid-out tokens that are stopped have no tree
+laid_none : (laid : List Token) (end : At) (s : Stop) (tree : Tree) → StopsLaid laid end s → MeansLaid laid tree → ⊥
 laid_none laid end _ tree (syntax_at at h) p = parsed_no_syntax laid end at p.whole p.parsed h
 laid_none laid end _ tree (nesting_at at h) p = parsed_no_nesting laid end at p.whole p.parsed h
-laid_none laid end _ tree (names_at whole s parsed lacks told) p = asked_none p.whole s (asked_too laid (Err s) whole p.whole parsed p.parsed lacks) told p.keeps
-laid_none laid end _ tree (not_built whole parsed has none) p = none tree p.program
+laid_none laid end s tree (whole_at whole _ parsed h) p = whole_none p.whole s tree (subst (λ w. StopsWhole w s) (whole_once laid whole p.whole parsed p.parsed) h) p.resolves
 
--- a text that is stopped spells no tree
-stopped_none : (text : List ℕ) (s : Stop) (tree : Tree) → IsStopped text s → SpellsTree text tree → ⊥
+-- a text that is stopped has no tree
+stopped_none : (text : List ℕ) (s : Stop) (tree : Tree) → IsStopped text s → MeansTree text tree → ⊥
 stopped_none text s tree h p =
     let a = stopping text s h in
     let same = same_answer form.Program text a.answer (Ok p.layout.tokens) a.lexed p.layout.lexed a.told (λ e. cc) in
     let stops : StopsLayout (laid_out p.layout.tokens (end_place text)) (end_place text) s = subst (λ r. StopsAt r (end_place text) s) same a.stops in
-    laid_none p.laid (end_place text) s tree (subst (λ r. StopsLayout r (end_place text) s) p.layout.laid_out stops) p.spelled
+    laid_none p.laid (end_place text) s tree (subst (λ r. StopsLayout r (end_place text) s) p.layout.laid_out stops) p.means
 
--- a text spells one tree
-spelled_once : (text : List ℕ) (first second : Tree) → SpellsTree text first → SpellsTree text second → first ≡ second
-spelled_once text first second h g = same_tree g.laid first second (subst (λ laid. IsProgram laid first) (layout_once text h.laid g.laid h.layout g.layout) h.spelled.program) g.spelled.program
+-- a text has one tree
+laid_tree_once : (laid : List Token) (first second : Tree) → MeansLaid laid first → MeansLaid laid second → first ≡ second
+laid_tree_once laid first second h g = some_inj (resolves_once g.whole (Some first) (Some second) (subst (λ w. ResolvesTo w (Some first)) (whole_once laid h.whole g.whole h.parsed g.parsed) h.resolves) g.resolves)
+  where
+    some_inj : ◌≡◌ {A = Option Tree} (Some first) (Some second) → first ≡ second
+    some_inj e = cc
+
+text_tree_once : (text : List ℕ) (first second : Tree) → MeansTree text first → MeansTree text second → first ≡ second
+text_tree_once text first second h g = laid_tree_once g.laid first second (subst (λ laid. MeansLaid laid first) (layout_once text h.laid g.laid h.layout g.layout) h.means) g.means
 
 text_once : (text : List ℕ) (s : ℕ) (b : List ℕ) → IsDueFor text s b → (t : ℕ) (c : List ℕ) → IsDueFor text t c → (s ≡ t) × (b ≡ c)
 text_once text _ _ (long h) _ _ (long g) = (refl, refl)
@@ -316,7 +342,7 @@ text_once text _ _ (stopped s h why) _ _ (ran tree a g program m) = absurd (stop
 text_once text _ _ (ran tree a h program m) _ _ (long g) = absurd (omega arith)
 text_once text _ _ (ran tree a h program m) _ _ (stopped s g why) = absurd (stopped_none text s tree why program)
 text_once text _ _ (ran tree a h program m) _ _ (ran other b g again n) =
-    let same = one_meaning tree other a b (spelled_once text tree other program again) m n in
+    let same = one_meaning tree other a b (text_tree_once text tree other program again) m n in
     (ap (λ (x : Answer). status_of x.outcome) same, ap (λ (x : Answer). run_text x.outcome x.unfoldings) same)
 
 pub due_once : (words : List (List ℕ)) (text : List ℕ) (s : ℕ) (b : List ℕ) → IsDue words text s b → (t : ℕ) (c : List ℕ) → IsDue words text t c → (s ≡ t) × (b ≡ c)
@@ -354,14 +380,17 @@ lexer_limit text (lex.Unclosed at) h e = absurd (omega arith)
 lexer_limit text (lex.Tokens at) h e = (at, h)
 lexer_limit text lex.Want h e = absurd (omega arith)
 
+whole_limit : (whole : program.Tree) (s : Stop) → StopsWhole whole s → stop_status s ≡ 8 → (at : At) × IsAsked whole (Err (checking.Depth at))
+whole_limit whole _ (names_at (checking.Fixity at) h told) e = absurd (omega arith)
+whole_limit whole _ (names_at (checking.Depth at) h told) e = (at, h)
+whole_limit whole _ (names_at (checking.Name b) h told) e = absurd (omega arith)
+whole_limit whole _ (names_at checking.Want h told) e = absurd (told refl)
+whole_limit whole _ (not_built h) e = absurd (omega arith)
+
 laid_limit : (text : List ℕ) (laid : List Token) (s : Stop) → HasLayout text laid → StopsLaid laid (end_place text) s → stop_status s ≡ 8 → NestsTooDeep text ⊎ HasDeepTree text
 laid_limit text laid _ h (syntax_at at g) e = absurd (omega arith)
 laid_limit text laid _ h (nesting_at at g) e = inl (record { laid = laid; layout = h; at = at; nesting = g })
-laid_limit text laid _ h (names_at whole (checking.Fixity at) parsed lacks told) e = absurd (omega arith)
-laid_limit text laid _ h (names_at whole (checking.Depth at) parsed deep told) e = inr (record { laid = laid; layout = h; whole = whole; parsed = parsed; at = at; deep = deep })
-laid_limit text laid _ h (names_at whole (checking.Name b) parsed lacks told) e = absurd (omega arith)
-laid_limit text laid _ h (names_at whole checking.Want parsed lacks told) e = absurd (told refl)
-laid_limit text laid _ h (not_built whole parsed has none) e = absurd (omega arith)
+laid_limit text laid s h (whole_at whole _ parsed why) e = let deep = whole_limit whole s why e in inr (record { laid = laid; layout = h; whole = whole; parsed = parsed; at = deep.0; deep = deep.1 })
 
 unlaid_limit : (text : List ℕ) (s : Stop) → LacksLayout text s → stop_status s ≡ 8 → (at : At) × Lexes form.Program text (Err (lex.Tokens at))
 unlaid_limit text _ (lexemes s h told) e = lexer_limit text s h e
@@ -383,7 +412,7 @@ too_deep : (text : List ℕ) (deep : NestsTooDeep text) → IsStopped text (pars
 too_deep text deep = laid_tokens deep.laid _ deep.layout (nesting_at deep.at deep.nesting)
 
 has_deep : (text : List ℕ) (deep : HasDeepTree text) → IsStopped text (names_stop (checking.Depth deep.at))
-has_deep text deep = laid_tokens deep.laid _ deep.layout (names_at deep.whole (checking.Depth deep.at) deep.parsed deep.deep (λ e. cc))
+has_deep text deep = laid_tokens deep.laid _ deep.layout (whole_at deep.whole _ deep.parsed (names_at (checking.Depth deep.at) deep.deep (λ e. cc)))
 
 text_long : (text : List ℕ) (status : ℕ) (bytes : List ℕ) → IsDueFor text status bytes → PassesLimit text → status ≡ 8
 text_long text _ _ (long h) l = refl

@@ -1,8 +1,11 @@
 pub mod Carrying
+pub mod Emitting
+pub mod PlainBindings
 pub mod Running
 pub mod Dues
-pub mod Tokens
 pub mod Texts
 pub mod NoTree
 pub mod Joining
 pub mod OneNames
+pub mod Orders
+pub mod Resolving

@@ -1,10 +1,10 @@
--- What a text spells, from what the steps of reading it answer.
-use Rattle.std.proofs.Common.{◌≡◌, ◌≢◌, ℕ, List, refl, sym, ap, subst, ◌∙◌, Option, Some, None, Result, Ok, Err}
+-- What a text means, from what the steps of compiling it answer.
+use Rattle.std.proofs.Common.{◌≡◌, ◌≢◌, ℕ, List, map, refl, sym, ap, subst, ◌∙◌, Option, Some, None, Result, Ok, Err}
 use Rattle.hdc_base.specs.declared.place.At.{At}
-use Rattle.hdc_base.specs.declared.token.Token as text_token
+use Rattle.hdc_base.specs.declared.token.Token.{Token}
 use Rattle.hdc_base.specs.declared.refusal.Kind.TheVariants as kind
 use Rattle.hdc_base.specs.declared.refusal.Stop.{Stop}
-use Rattle.hdc_base.specs.declared.refusal.Stop.TheVariants as text_stop
+use Rattle.hdc_base.specs.declared.refusal.Stop.TheVariants as stop
 use Rattle.hdc_lex.specs.declared.lexeme.Form.TheVariants as form
 use Rattle.hdc_lex.specs.declared.lexer.LexStop.{LexStop}
 use Rattle.hdc_lex.specs.declared.lexer.LexStop.TheVariants as lex
@@ -12,79 +12,67 @@ use Rattle.hdc_lex.specs.Lexing.{Lexes}
 use Rattle.hdc_layout.specs.declared.stop.LayoutStop.{LayoutStop}
 use Rattle.hdc_layout.specs.declared.stop.LayoutStop.TheVariants as laying
 use Rattle.hdc_layout.specs.LaidOut.{laid_out, IsLaidOut}
-use Rattle.hdc_arithmetic.specs.declared.exp.Exp.{Exp}
-use Rattle.hdc_arithmetic.specs.declared.token.Token.{Token}
-use Rattle.hdc_arithmetic.specs.Tree.{Tree, tree_of}
-use Rattle.hdc_arithmetic.specs.Program.{IsProgram, SpellsNone, program_tokens}
-use Rattle.hdc_arithmetic.specs.Reading.{tokens_in, program_of}
-use Rattle.hdc_arithmetic.proofs.Programs.{program_found, program_read, inner_same}
 use Rattle.hdc_parse.specs.declared.stop.ParseStop.{ParseStop}
 use Rattle.hdc_parse.specs.declared.stop.ParseStop.TheVariants as parsing
 use Rattle.hdc_parse.specs.Exact.{IsParsed}
 use Rattle.hdc_parse.specs.Answer.{IsAnswer}
 use Rattle.hdc_tree.specs.declared.program.Tree as program
+use Rattle.hdc_written.specs.Mirror.{tops_of}
+use Rattle.hdc_resolved.specs.Mirror.{binding_of}
+use Rattle.hdc_code.specs.declared.instr.Instr.{Instr}
 use Rattle.hdc_top.specs.declared.names.NamesStop.{NamesStop}
 use Rattle.hdc_top.specs.declared.names.NamesStop.TheVariants as checking
-use Rattle.hdc_written.specs.Mirror.{tops_of}
+use Rattle.hdc_resolved.specs.declared.program.Resolved.{Resolved}
 use Rattle.hdc_top.specs.Names.{AreChecked}
+use Rattle.hdc_top.specs.Resolved.{Resolves}
 use Rattle.hdc_top.specs.Prelude.{IsPrelude}
-use Rattle.hdc_top.specs.Stopped.{not_yet, refused_at, layout_stop, lexer_stop, parser_stop, names_stop, end_place, HasLayout, IsAsked, KeepsRules, StopsLaid, syntax_at, nesting_at, names_at, not_built, IsStopped, no_tokens, lexemes, layout, laid_tokens}
-use Rattle.hdc_top.specs.Results.{IsBetween, Finds, Reads, ReadsProgram, LaysText, ChecksWhole, ReadsLaid, ReadsText, Compiles}
-use Rattle.hdc_top.specs.declared.reader.ReadStop.{ReadStop}
-use Rattle.hdc_top.specs.declared.reader.ReadStop.TheVariants as stop
+use Rattle.hdc_top.specs.Arithmetic.{Tree}
+use Rattle.hdc_top.specs.Main.{main_tree}
+use Rattle.hdc_top.specs.Code.{Carries}
+use Rattle.hdc_top.specs.Stopped.{not_yet, refused_at, layout_stop, lexer_stop, parser_stop, names_stop, end_place, HasLayout, IsAsked, ResolvesTo, StopsWhole, names_at, not_built, StopsLaid, syntax_at, nesting_at, whole_at, IsStopped, no_tokens, lexemes, layout, laid_tokens}
+use Rattle.hdc_top.proofs.Resolving.{resolved_are}
+use Rattle.hdc_top.specs.Results.{LaysText, CompilesWhole, CompilesLaid, Compiles}
 
--- what a program's tokens are read as, where they stand between these braces
-inner_read : (laid inner : List text_token.Token) (tree : Tree) → IsBetween laid inner → (p : IsProgram laid tree) → tokens_in inner ≡ Some (program_tokens p.name p.sign tree)
-inner_read laid inner tree (a, b, block) p = ap tokens_in (inner_same a b p.open_at p.close_at inner p.inner (sym block ∙ p.block)) ∙ (program_read laid tree p).0
+-- the tree of a program whose bindings these are
+abbrev read_tree : program.Tree → Resolved → Option Tree
+read_tree whole r = main_tree (tops_of whole) (map binding_of r.decls)
 
--- what is read of the tokens between the braces is read of the laid-out tokens
-pub program_reads : (laid inner : List text_token.Token) (tokens : List Token) (r : Result Exp ReadStop) → IsBetween laid inner → tokens_in inner ≡ Some tokens → Reads r (program_of tokens) → ReadsProgram laid r
-program_reads laid inner tokens (Ok e) (a, b, block) are h = program_found laid inner a b tokens (tree_of e) block are h
-program_reads laid inner tokens (Err stop.NotYet) between are h = λ tree p.
-    let same : ◌≡◌ {A = Option (List Token)} (Some tokens) (Some (program_tokens p.name p.sign tree)) = sym are ∙ inner_read laid inner tree between p in
-    let list : tokens ≡ program_tokens p.name p.sign tree = cc in
-    let clash : ◌≡◌ {A = Option Tree} None (Some tree) = sym h ∙ ap program_of list ∙ (program_read laid tree p).1 in
-    cc
-program_reads laid inner tokens (Err stop.Want) between are h = tt
+resolves_to : (whole prelude : program.Tree) (r : Resolved) (read : Option Tree) → IsPrelude prelude → Resolves (tops_of prelude) (tops_of whole) (Ok r) → read_tree whole r ≡ read → ResolvesTo whole read
+resolves_to whole prelude r read is h e = record { prelude = prelude; is = is; keeps = h.0; bindings = map binding_of r.decls; are = resolved_are (tops_of prelude) (tops_of whole) r h.1; resolved = e }
 
--- where nothing stands between braces, or no tokens of arithmetic do, no tree is spelled
-pub program_unbraced : (laid : List text_token.Token) → ((inner : List text_token.Token) → IsBetween laid inner → ⊥) → SpellsNone laid
-program_unbraced laid none = λ tree p. none p.inner (p.open_at, p.close_at, p.block)
+-- code of what main stands for is code of the program
+pub code_compiles : (whole prelude : program.Tree) (r : Resolved) (code : List Instr) → IsPrelude prelude → Resolves (tops_of prelude) (tops_of whole) (Ok r) → Carries (read_tree whole r) (Some code) → CompilesWhole whole (Ok code)
+code_compiles whole prelude r code is h g = (g.0, resolves_to whole prelude r (Some g.0) is h g.1, g.2)
 
-pub program_stops : (laid inner : List text_token.Token) (s : ReadStop) → IsBetween laid inner → Finds (Err s) (tokens_in inner) → ReadsProgram laid (Err s)
-program_stops laid inner stop.NotYet between h = λ tree p.
-    let clash : ◌≡◌ {A = Option (List Token)} None (Some (program_tokens p.name p.sign tree)) = sym h ∙ inner_read laid inner tree between p in
-    cc
-program_stops laid inner stop.Want between h = tt
-
--- laid-out tokens that are a program, but not of the form that is built
-pub not_built_stops : (laid : List text_token.Token) (end : At) (whole : program.Tree) (s : Stop) → IsParsed laid whole → KeepsRules whole → SpellsNone laid → s ≡ not_yet → ReadsLaid laid end (Err s)
-not_built_stops laid end whole s parsed has none same = subst (λ s. ReadsLaid laid end (Err s)) (sym same) (not_built whole parsed has none)
+-- a program that is not of the form that is built
+pub not_built_compiles : (whole prelude : program.Tree) (r : Resolved) (s : Stop) → IsPrelude prelude → Resolves (tops_of prelude) (tops_of whole) (Ok r) → read_tree whole r ≡ None → s ≡ not_yet → CompilesWhole whole (Err s)
+not_built_compiles whole prelude r s is h e same = subst (λ s. CompilesWhole whole (Err s)) (sym same) (not_built (resolves_to whole prelude r None is h e))
 
 -- where a rule on chains, depths or names is broken
-told_stops : (whole : program.Tree) (why : NamesStop) → IsAsked whole (Err why) → ChecksWhole whole (Err (names_stop why))
-told_stops whole (checking.Fixity at) h = record { why = checking.Fixity at; is = refl; asked = h; told = λ e. cc }
-told_stops whole (checking.Depth at) h = record { why = checking.Depth at; is = refl; asked = h; told = λ e. cc }
-told_stops whole (checking.Name b) h = record { why = checking.Name b; is = refl; asked = h; told = λ e. cc }
-told_stops whole checking.Want h = tt
+asked_compiles : (whole : program.Tree) (why : NamesStop) → IsAsked whole (Err why) → CompilesWhole whole (Err (names_stop why))
+asked_compiles whole (checking.Fixity at) h = names_at (checking.Fixity at) h (λ e. cc)
+asked_compiles whole (checking.Depth at) h = names_at (checking.Depth at) h (λ e. cc)
+asked_compiles whole (checking.Name b) h = names_at (checking.Name b) h (λ e. cc)
+asked_compiles whole checking.Want h = tt
 
-pub names_stops : (whole prelude : program.Tree) (why : NamesStop) (s : Stop) → IsPrelude prelude → AreChecked (tops_of prelude) (tops_of whole) (Err why) → s ≡ names_stop why → ChecksWhole whole (Err s)
-names_stops whole prelude why s is h same = subst (λ s. ChecksWhole whole (Err s)) (sym same) (told_stops whole why (record { prelude = prelude; is = is; checked = h }))
+pub names_compiles : (whole prelude : program.Tree) (why : NamesStop) (s : Stop) → IsPrelude prelude → AreChecked (tops_of prelude) (tops_of whole) (Err why) → s ≡ names_stop why → CompilesWhole whole (Err s)
+names_compiles whole prelude why s is h same = subst (λ s. CompilesWhole whole (Err s)) (sym same) (asked_compiles whole why (record { prelude = prelude; is = is; checked = h }))
 
--- laid-out tokens that are a program, which is not found to keep the rules on chains, depths and names
-pub checked_stops : (laid : List text_token.Token) (end : At) (whole : program.Tree) (s : Stop) → IsParsed laid whole → ChecksWhole whole (Err s) → ReadsLaid laid end (Err s)
-checked_stops laid end whole text_stop.Want parsed h = tt
-checked_stops laid end whole (text_stop.Refused r) parsed h = subst (λ s. StopsLaid laid end s) (sym h.is) (names_at whole h.why parsed h.asked h.told)
-checked_stops laid end whole (text_stop.Limit l) parsed h = subst (λ s. StopsLaid laid end s) (sym h.is) (names_at whole h.why parsed h.asked h.told)
+-- what is said of a program is said of its laid-out tokens
+pub whole_compiles : (laid : List Token) (end : At) (whole : program.Tree) (r : Result (List Instr) Stop) → IsParsed laid whole → CompilesWhole whole r → CompilesLaid laid end r
+whole_compiles laid end whole (Ok code) parsed h = (h.0, record { whole = whole; parsed = parsed; resolves = h.1 }, h.2)
+whole_compiles laid end whole (Err stop.Want) parsed h = tt
+whole_compiles laid end whole (Err (stop.Refused r)) parsed h = whole_at whole (stop.Refused r) parsed h
+whole_compiles laid end whole (Err (stop.Limit l)) parsed h = whole_at whole (stop.Limit l) parsed h
 
-parsing_stops : (laid : List text_token.Token) (end : At) (s : ParseStop) → IsAnswer laid end (Err s) → ReadsLaid laid end (Err (parser_stop s))
-parsing_stops laid end (parsing.Syntax at) h = syntax_at at h
-parsing_stops laid end (parsing.Nesting at) h = nesting_at at h
-parsing_stops laid end parsing.Want h = tt
+parsing_compiles : (laid : List Token) (end : At) (s : ParseStop) → IsAnswer laid end (Err s) → CompilesLaid laid end (Err (parser_stop s))
+parsing_compiles laid end (parsing.Syntax at) h = syntax_at at h
+parsing_compiles laid end (parsing.Nesting at) h = nesting_at at h
+parsing_compiles laid end parsing.Want h = tt
 
--- what the parser's stop is read as
-pub parser_stops : (laid : List text_token.Token) (end : At) (s : ParseStop) (t : Stop) → IsAnswer laid end (Err s) → t ≡ parser_stop s → ReadsLaid laid end (Err t)
-parser_stops laid end s t h same = subst (λ t. ReadsLaid laid end (Err t)) (sym same) (parsing_stops laid end s h)
+-- what the parser's stop is for a text
+pub parser_compiles : (laid : List Token) (end : At) (s : ParseStop) (t : Stop) → IsAnswer laid end (Err s) → t ≡ parser_stop s → CompilesLaid laid end (Err t)
+parser_compiles laid end s t h same = subst (λ t. CompilesLaid laid end (Err t)) (sym same) (parsing_compiles laid end s h)
 
 lexer_lays : (text : List ℕ) (s : LexStop) → Lexes form.Program text (Err s) → LaysText text (Err (lexer_stop s))
 lexer_lays text (lex.Byte at) h = lexemes (lex.Byte at) h (λ e. cc)
@@ -97,29 +85,29 @@ lexer_lays text lex.Want h = tt
 pub lexer_stops : (text : List ℕ) (s : LexStop) (t : Stop) → Lexes form.Program text (Err s) → t ≡ lexer_stop s → LaysText text (Err t)
 lexer_stops text s t h same = subst (λ t. LaysText text (Err t)) (sym same) (lexer_lays text s h)
 
-layout_lays : (text : List ℕ) (tokens : List text_token.Token) (s : LayoutStop) → Lexes form.Program text (Ok tokens) → IsLaidOut (laid_out tokens (end_place text)) (Err s) → LaysText text (Err (layout_stop s))
+layout_lays : (text : List ℕ) (tokens : List Token) (s : LayoutStop) → Lexes form.Program text (Ok tokens) → IsLaidOut (laid_out tokens (end_place text)) (Err s) → LaysText text (Err (layout_stop s))
 layout_lays text tokens (laying.Brace at) lexed h = layout tokens at lexed h
 layout_lays text tokens laying.Want lexed h = tt
 
 -- a stop of the layout is a stop of the text
-pub layout_stops : (text : List ℕ) (tokens : List text_token.Token) (end : At) (s : LayoutStop) (t : Stop) → Lexes form.Program text (Ok tokens) → end ≡ end_place text → IsLaidOut (laid_out tokens end) (Err s) → t ≡ layout_stop s → LaysText text (Err t)
+pub layout_stops : (text : List ℕ) (tokens : List Token) (end : At) (s : LayoutStop) (t : Stop) → Lexes form.Program text (Ok tokens) → end ≡ end_place text → IsLaidOut (laid_out tokens end) (Err s) → t ≡ layout_stop s → LaysText text (Err t)
 layout_stops text tokens end s t lexed place h same = subst (λ t. LaysText text (Err t)) (sym same) (layout_lays text tokens s lexed (subst (λ at. IsLaidOut (laid_out tokens at) (Err s)) place h))
 
--- what a text's laid-out tokens are read as, the text is read as
-pub laid_reads : (text : List ℕ) (laid : List text_token.Token) (end : At) (r : Result Exp Stop) → HasLayout text laid → end ≡ end_place text → ReadsLaid laid end r → ReadsText text r
-laid_reads text laid end (Ok e) has place h = record { laid = laid; layout = has; spelled = h }
-laid_reads text laid end (Err text_stop.Want) has place h = tt
-laid_reads text laid end (Err (text_stop.Refused x)) has place h = laid_tokens laid (text_stop.Refused x) has (subst (λ at. StopsLaid laid at (text_stop.Refused x)) place h)
-laid_reads text laid end (Err (text_stop.Limit l)) has place h = laid_tokens laid (text_stop.Limit l) has (subst (λ at. StopsLaid laid at (text_stop.Limit l)) place h)
+-- what is said of a text's laid-out tokens is said of the text
+pub laid_compiles : (text : List ℕ) (laid : List Token) (end : At) (r : Result (List Instr) Stop) → HasLayout text laid → end ≡ end_place text → CompilesLaid laid end r → Compiles text r
+laid_compiles text laid end (Ok code) has place h = (h.0, record { laid = laid; layout = has; means = h.1 }, h.2)
+laid_compiles text laid end (Err stop.Want) has place h = tt
+laid_compiles text laid end (Err (stop.Refused x)) has place h = laid_tokens laid (stop.Refused x) has (subst (λ at. StopsLaid laid at (stop.Refused x)) place h)
+laid_compiles text laid end (Err (stop.Limit l)) has place h = laid_tokens laid (stop.Limit l) has (subst (λ at. StopsLaid laid at (stop.Limit l)) place h)
 
 -- a text without laid-out tokens is stopped
-pub unlaid_reads : (text : List ℕ) (s : Stop) → LaysText text (Err s) → ReadsText text (Err s)
-unlaid_reads text text_stop.Want h = tt
-unlaid_reads text (text_stop.Refused r) h = no_tokens (text_stop.Refused r) h
-unlaid_reads text (text_stop.Limit l) h = no_tokens (text_stop.Limit l) h
+pub unlaid_compiles : (text : List ℕ) (s : Stop) → LaysText text (Err s) → Compiles text (Err s)
+unlaid_compiles text stop.Want h = tt
+unlaid_compiles text (stop.Refused r) h = no_tokens (stop.Refused r) h
+unlaid_compiles text (stop.Limit l) h = no_tokens (stop.Limit l) h
 
 -- why a text was not compiled
-pub compiled_stop : (text : List ℕ) (s : Stop) → s ≢ text_stop.Want → Compiles text (Err s) → IsStopped text s
-compiled_stop text text_stop.Want told h = absurd (told refl)
-compiled_stop text (text_stop.Refused r) told h = h
-compiled_stop text (text_stop.Limit l) told h = h
+pub compiled_stop : (text : List ℕ) (s : Stop) → s ≢ stop.Want → Compiles text (Err s) → IsStopped text s
+compiled_stop text stop.Want told h = absurd (told refl)
+compiled_stop text (stop.Refused r) told h = h
+compiled_stop text (stop.Limit l) told h = h

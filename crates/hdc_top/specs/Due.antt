@@ -9,9 +9,9 @@ use Rattle.hdc_base.specs.Counts.{Rose}
 use Rattle.hdc_value.specs.declared.outcome.Outcome.{Outcome}
 use Rattle.hdc_value.specs.declared.outcome.Outcome.TheVariants as outcome
 use Rattle.hdc_value.specs.Answer.{Answer}
-use Rattle.hdc_arithmetic.specs.Tree.{Tree}
-use Rattle.hdc_arithmetic.specs.Meaning.{meaning}
-use Rattle.hdc_top.specs.Stopped.{most_bytes, SpellsTree, IsStopped}
+use Rattle.hdc_top.specs.Arithmetic.{Tree}
+use Rattle.hdc_top.specs.Meaning.{meaning}
+use Rattle.hdc_top.specs.Stopped.{most_bytes, MeansTree, IsStopped}
 use Rattle.hdc_top.specs.Report.{run_text, stop_text}
 use Rattle.hdc_top.specs.Words.{job_of, usage_text}
 
@@ -38,7 +38,7 @@ status_of (outcome.Trap t) = 3
 pub data IsDueFor (text : List ℕ) : ℕ → List ℕ → Type 0 where
   long : most_bytes < length text → IsDueFor text 8 (stop_text too_long)
   stopped : (s : Stop) → length text ≤ most_bytes → IsStopped text s → IsDueFor text (stop_status s) (stop_text s)
-  ran : (tree : Tree) (answer : Answer) → length text ≤ most_bytes → SpellsTree text tree → meaning tree budget ≡ Some answer → IsDueFor text (status_of answer.outcome) (run_text answer.outcome answer.unfoldings)
+  ran : (tree : Tree) (answer : Answer) → length text ≤ most_bytes → MeansTree text tree → meaning tree budget ≡ Some answer → IsDueFor text (status_of answer.outcome) (run_text answer.outcome answer.unfoldings)
 
 -- the same for words, where the text is that of their file
 pub data IsDue (words : List (List ℕ)) (text : List ℕ) : ℕ → List ℕ → Type 0 where

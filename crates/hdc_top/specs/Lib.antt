@@ -1,10 +1,13 @@
 pub mod Layout
 pub mod Prelude
 pub mod Names
+pub mod Resolved
+pub mod Arithmetic
+pub mod Meaning
+pub mod Main
 pub mod Stopped
-pub mod Results
-pub mod Parsing
 pub mod Code
+pub mod Results
 pub mod Runs
 pub mod Report
 pub mod Words

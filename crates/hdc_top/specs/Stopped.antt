@@ -1,5 +1,5 @@
 -- A text as a program, and why it is none.
-use Rattle.std.specs.Prelude.{◌≡◌, ◌⊎◌, ℕ, ◌<◌, List, length, Ok, Err, Result}
+use Rattle.std.specs.Prelude.{◌≡◌, ◌⊎◌, ℕ, ◌<◌, List, length, Option, Some, None, Ok, Err, Result}
 use Rattle.hdc_base.specs.declared.place.At.{At}
 use Rattle.hdc_base.specs.declared.token.Token.{Token}
 use Rattle.hdc_base.specs.declared.refusal.Kind.{Kind}
@@ -18,8 +18,6 @@ use Rattle.hdc_layout.specs.declared.stop.LayoutStop.{LayoutStop}
 use Rattle.hdc_layout.specs.declared.stop.LayoutStop.TheVariants as laying
 use Rattle.hdc_layout.specs.LaidOut.{laid_out}
 use Rattle.hdc_tree.specs.declared.program.Tree as program
-use Rattle.hdc_arithmetic.specs.Tree.{Tree}
-use Rattle.hdc_arithmetic.specs.Program.{IsProgram, SpellsNone}
 use Rattle.hdc_parse.specs.declared.stop.ParseStop.{ParseStop}
 use Rattle.hdc_parse.specs.declared.stop.ParseStop.TheVariants as parsing
 use Rattle.hdc_parse.specs.Exact.{IsParsed, IsSyntax, IsNesting}
@@ -28,6 +26,10 @@ use Rattle.hdc_top.specs.declared.names.NamesStop.TheVariants as checking
 use Rattle.hdc_written.specs.Mirror.{tops_of}
 use Rattle.hdc_top.specs.Names.{AreChecked}
 use Rattle.hdc_top.specs.Prelude.{IsPrelude}
+use Rattle.hdc_top.specs.Arithmetic.{Tree}
+use Rattle.hdc_top.specs.Main.{main_tree}
+use Rattle.hdc_resolved.specs.Syntax.{Binding}
+use Rattle.hdc_top.specs.Resolved.{AreBindings}
 pub use Rattle.hdc_top.specs.Layout.{end_place, HasLayout}
 
 -- the most bytes of a file
@@ -74,37 +76,45 @@ pub record IsAsked (whole : program.Tree) (result : Result (Unit {0}) NamesStop)
   pub is : IsPrelude prelude
   pub checked : AreChecked (tops_of prelude) (tops_of whole) result
 
--- they keep them
-abbrev pub KeepsRules : program.Tree → Type 0
-KeepsRules whole = IsAsked whole (Ok tt)
+-- they keep them, and their resolved program has this tree of arithmetic, or none
+pub record ResolvesTo (whole : program.Tree) (tree : Option Tree) : Type 0 where
+  pub prelude : program.Tree
+  pub is : IsPrelude prelude
+  pub keeps : AreChecked (tops_of prelude) (tops_of whole) (Ok tt)
+  pub bindings : List Binding
+  pub are : AreBindings (tops_of prelude) (tops_of whole) bindings
+  pub resolved : main_tree (tops_of whole) bindings ≡ tree
 
--- the laid-out tokens are a program of the language that keeps the rules on chains, depths and names, and spell the tree
-pub record SpellsLaid (laid : List Token) (tree : Tree) : Type 0 where
+-- the laid-out tokens are a program of the language that keeps the rules on chains, depths and names, and whose resolved
+-- program has the tree
+pub record MeansLaid (laid : List Token) (tree : Tree) : Type 0 where
   pub whole : program.Tree
   pub parsed : IsParsed laid whole
-  pub keeps : KeepsRules whole
-  pub program : IsProgram laid tree
+  pub resolves : ResolvesTo whole (Some tree)
 
--- the text spells the tree
-pub record SpellsTree (text : List ℕ) (tree : Tree) : Type 0 where
+-- the text is such a program
+pub record MeansTree (text : List ℕ) (tree : Tree) : Type 0 where
   pub laid : List Token
   pub layout : HasLayout text laid
-  pub spelled : SpellsLaid laid tree
+  pub means : MeansLaid laid tree
 
--- why laid-out tokens spell no tree: no program goes on with one of them, one nests too deep, or they are a program that
--- breaks a rule on chains, depths or names, or breaks none, but is not of the form that is built
+-- why a program has no tree: it breaks a rule on chains, depths or names, or breaks none, but is not of the form that is built
+pub data StopsWhole (whole : program.Tree) : Stop → Type 0 where
+  names_at : (s : NamesStop) → IsAsked whole (Err s) → (s ≡ checking.Want → ⊥) → StopsWhole whole (names_stop s)
+  not_built : ResolvesTo whole None → StopsWhole whole not_yet
+
+-- why laid-out tokens have no tree: no program goes on with one of them, one nests too deep, or they are a program that has none
 pub data StopsLaid (laid : List Token) (end : At) : Stop → Type 0 where
   syntax_at : (at : At) → IsSyntax laid end at → StopsLaid laid end (parser_stop (parsing.Syntax at))
   nesting_at : (at : At) → IsNesting laid end at → StopsLaid laid end (parser_stop (parsing.Nesting at))
-  names_at : (whole : program.Tree) (s : NamesStop) → IsParsed laid whole → IsAsked whole (Err s) → (s ≡ checking.Want → ⊥) → StopsLaid laid end (names_stop s)
-  not_built : (whole : program.Tree) → IsParsed laid whole → KeepsRules whole → SpellsNone laid → StopsLaid laid end not_yet
+  whole_at : (whole : program.Tree) (s : Stop) → IsParsed laid whole → StopsWhole whole s → StopsLaid laid end s
 
 -- why a text has no laid-out tokens: its lexemes or its layout are refused, or it has too many lexemes
 pub data LacksLayout (text : List ℕ) : Stop → Type 0 where
   lexemes : (s : LexStop) → Lexes form.Program text (Err s) → (s ≡ lex.Want → ⊥) → LacksLayout text (lexer_stop s)
   layout : (tokens : List Token) (at : At) → Lexes form.Program text (Ok tokens) → laid_out tokens (end_place text) ≡ Err at → LacksLayout text (layout_stop (laying.Brace at))
 
--- why a text spells no tree, whatever its length: it has no laid-out tokens, or these spell none
+-- why a text has no tree, whatever its length: it has no laid-out tokens, or these have none
 pub data IsStopped (text : List ℕ) : Stop → Type 0 where
   no_tokens : (s : Stop) → LacksLayout text s → IsStopped text s
   laid_tokens : (laid : List Token) (s : Stop) → HasLayout text laid → StopsLaid laid (end_place text) s → IsStopped text s

@@ -1,11 +1,7 @@
-use Rattle.std.proofs.Common.{◌≡◌, sym, subst, refl}
-use Rattle.hdc_arithmetic.specs.Tree.{tree_of}
-use Rattle.hdc_top.specs.Code.{CarriesMeaning}
-use Rattle.hdc_top.proofs.Carrying.{program_code, program_carries}
+use Rattle.hdc_resolved.specs.Mirror.{expression_of}
+use Rattle.hdc_top.specs.Arithmetic.{arithmetic}
+use Rattle.hdc_top.proofs.Emitting.{program_emitted}
 use Rattle.hdc_top.proofs.generator.generate.Goals as goal
 
-pub returns : goal.returns
-returns c =
-    let tree = tree_of c.args.tree.now in
-    let code : c.from_vec.result ≡ program_code tree = rw (c.from_vec.ensures, c.in_ok-put-2.ensures, c.in_ok-emit.ensures, c.in_ok-put.ensures, c.new-code.ensures.items) refl in
-    subst (λ is. CarriesMeaning is tree) (sym code) (program_carries tree)
+pub returns-in_ok-put-2 : goal.returns-in_ok-put-2
+returns-in_ok-put-2 c = program_emitted (arithmetic (expression_of c.args.exp.now)) c.new-code.result.items c.put.new.code.items c.emit.new.code.items c.put-then-branch.new.code.items c.from_vec.result c.in_ok-emit.field-0 c.new-code.ensures.items c.in_ok-put.ensures c.if-branch.true c.in_ok-emit.ensures c.in_ok-put-2.ensures c.from_vec.ensures
