@@ -7,5 +7,6 @@ pub mod Texts
 pub mod NoTree
 pub mod Joining
 pub mod OneNames
+pub mod Ordered
 pub mod Orders
 pub mod Resolving

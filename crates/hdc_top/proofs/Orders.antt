@@ -7,7 +7,7 @@ use Rattle.hdc_written.specs.Breaches.{breach}
 use Rattle.hdc_needs.specs.Needy.{NeedsItself, IsIn, IsNeedy, text_blocks}
 use Rattle.hdc_needs.specs.Orders.{AreOrders}
 use Rattle.hdc_top.specs.Names.{BreakNone}
-use Rattle.hdc_resolve.specs.Resolved.{AreBlockOrders}
+use Rattle.hdc_top.specs.ResolvedTree.{AreBlockOrders}
 
 -- no value of these blocks needs itself
 abbrev NoneNeedy : List Declarations → Type 0

@@ -8,7 +8,7 @@ use Rattle.hdc_resolved.specs.Syntax.{Binding}
 use Rattle.hdc_resolving.specs.Grouped.{by_steps}
 use Rattle.hdc_bindings.specs.Tops.{all_bindings}
 use Rattle.hdc_bindings.proofs.Congruence.{same_text}
-use Rattle.hdc_resolve.specs.Resolved.{IsResolved}
+use Rattle.hdc_top.specs.ResolvedTree.{IsResolved}
 use Rattle.hdc_top.specs.Names.{BreakNone}
 use Rattle.hdc_top.specs.Resolved.{AreBindings}
 use Rattle.hdc_top.proofs.Orders.{block_orders_once}

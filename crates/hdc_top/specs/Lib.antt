@@ -1,6 +1,7 @@
 pub mod Layout
 pub mod Prelude
 pub mod Names
+pub mod ResolvedTree
 pub mod Resolved
 pub mod Arithmetic
 pub mod Meaning

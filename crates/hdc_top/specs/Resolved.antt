@@ -8,7 +8,7 @@ use Rattle.hdc_resolved.specs.declared.program.Resolved.{Resolved}
 use Rattle.hdc_resolved.specs.Syntax.{Binding}
 use Rattle.hdc_resolving.specs.Grouped.{by_trees}
 use Rattle.hdc_bindings.specs.Tops.{all_bindings}
-use Rattle.hdc_resolve.specs.Resolved.{AreBlockOrders, IsResolved}
+use Rattle.hdc_top.specs.ResolvedTree.{AreBlockOrders, IsResolved}
 use Rattle.hdc_top.specs.declared.names.NamesStop.{NamesStop}
 use Rattle.hdc_top.specs.Names.{AreChecked}
 

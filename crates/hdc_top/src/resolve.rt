@@ -4,6 +4,7 @@ ghost use Rattle.hdc_written.specs.Mirror.{tops_of};
 ghost use Rattle.hdc_top.specs.Resolved.{Resolves};
 
 use crate::names::{NamesStop, check_names};
+use crate::tree::resolved_tree;
 use hdc_resolved::Resolved;
 use hdc_tree::Tree;
 use std::alloc::Global;
@@ -17,7 +18,7 @@ pub fn resolve(alloc: Global, prelude: &Tree, program: &Tree) -> Result<Resolved
     ensures { Resolves (tops_of prelude.now) (tops_of program.now) result }
 {
     match check_names(alloc, prelude, program) {
-        Ok(()) => Ok(hdc_resolve::resolve(alloc, prelude, program)?),
+        Ok(()) => Ok(resolved_tree(alloc, prelude, program)?),
         Err(stop) => Err(stop),
     }
 }

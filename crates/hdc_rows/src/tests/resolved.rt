@@ -4,8 +4,8 @@ use super::chains::prelude;
 use super::trees::laid;
 use hdc_base::Src;
 use hdc_parse::parse;
-use hdc_resolve::resolve;
 use hdc_resolved::Resolved;
+use hdc_top::resolved_tree;
 use hdc_tree::Tree;
 use std::alloc::{AllocError, Global};
 use std::test::Fail;
@@ -16,7 +16,7 @@ fn groups(alloc: Global, prelude: &Tree, text: &str) -> Result<Vec<u8>, Fail> {
     let Ok(tree) = parse(alloc, tokens.as_slice(), end) else {
         return Err(Fail::from(AllocError));
     };
-    let resolved = resolve(alloc, prelude, &tree)?;
+    let resolved = resolved_tree(alloc, prelude, &tree)?;
     let mut written = Vec::new(alloc);
     for group in resolved.groups.as_slice() {
         add_group(&resolved, group.as_slice(), &mut written)?;

@@ -2,7 +2,7 @@
 use Rattle.std.proofs.Common.{◌≡◌, ℕ, List, [], ◌∷◌, ◌++◌, ap, sym, ◌∙◌, append_assoc, subst}
 use Rattle.hdc_written.specs.Written.{Declarations}
 use Rattle.hdc_needs.specs.Orders.{AreOrders}
-use Rattle.hdc_resolve.specs.Resolved.{IsAdded}
+use Rattle.hdc_top.specs.ResolvedTree.{IsAdded}
 
 -- the blocks of one text behind those of another
 orders_joined : (xs ys : List Declarations) (os ps : List (List ℕ)) → AreOrders xs os → AreOrders ys ps → AreOrders (xs ++ ys) (os ++ ps)

@@ -1,8 +1,8 @@
-//! The resolved tree.
+//! The resolved tree of a prelude and of a program behind it, whether or not they keep the rules on names.
 
 ghost use Rattle.std.specs.Prelude.{IfOk};
 ghost use Rattle.hdc_written.specs.Mirror.{tops_of};
-ghost use Rattle.hdc_resolve.specs.Resolved.{IsResolved};
+ghost use Rattle.hdc_top.specs.ResolvedTree.{IsResolved};
 
 use crate::orders::block_orders;
 use hdc_bindings::resolve_bindings;
@@ -19,7 +19,7 @@ use std::alloc::{AllocError, Global};
 /// # Errors
 ///
 /// `AllocError` where memory is wanting, or a number for a name.
-pub fn resolve(alloc: Global, prelude: &Tree, program: &Tree) -> Result<Resolved, AllocError>
+pub fn resolved_tree(alloc: Global, prelude: &Tree, program: &Tree) -> Result<Resolved, AllocError>
     ensures { IfOk result (λ r. IsResolved (tops_of prelude.now) (tops_of program.now) r) }
 {
     let orders = block_orders(alloc, prelude, program)?;

@@ -7,7 +7,7 @@ use Rattle.hdc_datas.specs.Datas.{datas_with}
 use Rattle.hdc_datas.specs.Needs.{NoSynonymReachesItself}
 use Rattle.hdc_written.specs.Mirror.{tops_of}
 use Rattle.hdc_bindings.proofs.Congruence.{same_text}
-use Rattle.hdc_resolve.proofs.tree.resolve.Goals as goal
+use Rattle.hdc_top.proofs.tree.resolved_tree.Goals as goal
 
 pub returns : goal.returns
 returns c =

@@ -3,7 +3,7 @@
 ghost use Rattle.std.specs.Prelude.{◌≡◌, ◌++◌, IfOk, OnOk};
 ghost use Rattle.hdc_written.specs.Mirror.{tops_of};
 ghost use Rattle.hdc_needs.specs.Needy.{text_blocks};
-ghost use Rattle.hdc_resolve.specs.Resolved.{AreBlockOrders, IsAdded};
+ghost use Rattle.hdc_top.specs.ResolvedTree.{AreBlockOrders, IsAdded};
 
 use hdc_needs::{Orders, find_orders};
 use hdc_resolved::Numbers;
