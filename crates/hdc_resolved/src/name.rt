@@ -64,7 +64,7 @@ pub enum Degree {
 pub enum Name {
     /// A binding at the top, by its place among them.
     Top(u32),
-    /// A local variable or function; no two of a text have one number.
+    /// A local variable or function; no two that are in scope at one place have one number.
     Local(u32),
     /// A constructor.
     Con(Constructor),
