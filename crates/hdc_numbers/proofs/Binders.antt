@@ -1,17 +1,13 @@
 -- Right sides bind no number that is bound around them.
-use Rattle.std.proofs.Common.{◌≡◌, ℕ, suc, ◌<◌, ◌≤◌, Bool, true, false, List, [], ◌∷◌, ◌++◌, Option, None, arith, if◌then◌else◌}
-use Rattle.std.proofs.Math.Nat.{le_trans}
+use Rattle.std.proofs.Common.{ℕ, Bool, true, false, List, [], ◌∷◌, ◌++◌, Option, None, arith}
 use Rattle.std.specs.List.{AllByRecursion}
-use Rattle.hdc_base.specs.declared.place.At.{At}
 use Rattle.hdc_base.specs.declared.place.Place.{Place}
 use Rattle.hdc_base.specs.declared.place.Src.{Src}
-use Rattle.hdc_tree.specs.declared.expression.Rhs.{Rhs}
-use Rattle.hdc_tree.specs.declared.head.Head.{Head}
 use Rattle.hdc_tree.specs.declared.program.Top.{Top}
 use Rattle.hdc_tree.specs.declared.program.Top.TheVariants as top
-use Rattle.hdc_written.specs.Firsts.{first_of_pattern, first_of_operand}
-use Rattle.hdc_written.specs.Mirror.{head_name, head_patterns, first_of_head, rhs_of}
-use Rattle.hdc_written.specs.Written.{variables, all_variables, Pattern, Patterns, Expression, chain, Links, no_link, link, Operand, variable, constructor, literal, unit, nil, cons, in_parentheses, tuple, list, range, comprehension, left_section, right_section, applied, lambda, let_in, if_else, case_of, Operands, no_operand, operand, Expressions, no_expression, expression, generator, condition, let_qualifier, Qualifiers, no_qualifier, qualifier, Alternative, blank, alternative, Alternatives, no_alternative, next_alternative, RightSide, plain, guarded, Guards, no_guard, guard, Declaration, empty, signature, equation, binding, Declarations, no_declaration, declaration, all_bound}
+use Rattle.hdc_written.specs.Firsts.{first_of_operand}
+use Rattle.hdc_written.specs.Mirror.{head_name, head_patterns, rhs_of}
+use Rattle.hdc_written.specs.Written.{variables, all_variables, Pattern, Patterns, Expression, chain, Links, no_link, link, Operand, variable, constructor, literal, unit, nil, cons, in_parentheses, tuple, list, range, comprehension, left_section, right_section, applied, lambda, let_in, if_else, case_of, Operands, no_operand, operand, Expressions, no_expression, expression, generator, condition, let_qualifier, Qualifiers, no_qualifier, qualifier, Alternative, blank, alternative, Alternatives, no_alternative, next_alternative, RightSide, plain, guarded, Guards, no_guard, guard, empty, signature, equation, binding, Declarations, no_declaration, declaration, all_bound}
 use Rattle.hdc_names.specs.declared.chain.NextOperand.{NextOperand}
 use Rattle.hdc_names.specs.Chain.{Tree}
 use Rattle.hdc_names.specs.OperatorTrees.{leaf, binary, negated}
@@ -28,10 +24,10 @@ use Rattle.hdc_resolving.specs.Locals.{link_uses}
 use Rattle.hdc_resolving.specs.Numbering.{counted, numbered, entered, moved}
 use Rattle.hdc_resolving.specs.Patterns.{resolved_pattern, resolved_patterns}
 use Rattle.hdc_resolving.specs.Standing.{Names, goes_on, opened}
-use Rattle.hdc_bindings.specs.Resolving.{behind_expression, behind_links, behind_operand, behind_qualifiers, behind_alternative, behind_right_side, behind_guards, behind_declaration, behind_declarations, inside, behind, block_of, equation_before, head_before, skips_degree, applied_unless, resolved_expression, placed_before, resolved_operand, applied_to, resolved_expressions, resolved_qualifiers, resolved_alternatives, alternative_before, resolved_right_side, resolved_guards, resolved_members, further_equations}
-use Rattle.hdc_bindings.specs.Tops.{behind_declared, equation_in, further_tops, top_bindings, all_bindings, prelude_known, program_known, prelude_walk, program_walk}
-use Rattle.hdc_numbers.specs.Binders.{pattern_numbers, patterns_numbers, members_numbers, IsNew, AreNew, BindsAnew, EachBindsAnew, QualifiersBindAnew, EquationsBindAnew, RightSideBindsAnew, GuardsBindAnew, BlockBindsAnew, MembersBindAnew, AllBindAnew}
-use Rattle.hdc_numbers.proofs.Locals.{one_on, names_on, expression_on, links_on, operand_on, alternative_on, right_side_on, declaration_on, declarations_on}
+use Rattle.hdc_bindings.specs.Resolving.{behind_expression, behind_links, behind_operand, behind_alternative, behind_declaration, inside, behind, head_before, skips_degree, applied_unless, resolved_expression, placed_before, resolved_operand, applied_to, resolved_expressions, resolved_qualifiers, resolved_alternatives, alternative_before, resolved_right_side, resolved_guards, resolved_members, further_equations}
+use Rattle.hdc_bindings.specs.Tops.{behind_declared, further_tops, top_bindings, all_bindings, prelude_known, program_known, prelude_walk, program_walk}
+use Rattle.hdc_numbers.specs.Binders.{pattern_numbers, patterns_numbers, members_numbers, IsNew, AreNew, BindsAnew, EachBindsAnew, QualifiersBindAnew, EquationsBindAnew, RightSideBindsAnew, GuardsBindAnew, MembersBindAnew, AllBindAnew}
+use Rattle.hdc_numbers.proofs.Locals.{one_on, names_on, expression_on, links_on, operand_on, alternative_on, declaration_on, declarations_on}
 use Rattle.hdc_numbers.proofs.Ranges.{all_joined, all_first, all_second, item_or, if_either, Below, InRange, AreInRange, HasNumber, below_more, one_new, all_new, below_range, all_numbers, pattern_range, patterns_range}
 
 -- ---- chains
@@ -80,6 +76,23 @@ module _ (k : Known) where
   one_range : (p : Pattern) (w : Walk) → AreInRange w.counter.numbers (numbered (variables p) w.counter).numbers (pattern_numbers (resolved_pattern p k (entered (variables p) w).names))
   one_range p w = pattern_range p k (entered (variables p) w).names w.counter.numbers (numbered (variables p) w.counter).numbers (all_numbers (variables p) w.counter w.names)
 
+  -- they are new, and with what is bound around them below what is counted behind them
+  abbrev entered_numbers : Patterns → Walk → List ℕ
+  entered_numbers ps w = patterns_numbers (resolved_patterns ps k (entered (all_variables ps) w).names)
+
+  entered_new : (ps : Patterns) (w : Walk) (around : List ℕ) → Below w.counter.numbers around → AreNew around (entered_numbers ps w)
+  entered_new ps w around below = all_new w.counter.numbers (entered (all_variables ps) w).counter.numbers (entered_numbers ps w) around (entered_range ps w) below
+
+  entered_below : (ps : Patterns) (w : Walk) (around : List ℕ) → Below w.counter.numbers around → Below (entered (all_variables ps) w).counter.numbers (entered_numbers ps w ++ around)
+  entered_below ps w around below = below_range w.counter.numbers (entered (all_variables ps) w).counter.numbers (entered_numbers ps w) around (entered_range ps w) (names_on (all_variables ps) w.counter) below
+
+-- the parameter of a section is new
+section_new : (w : Walk) (around : List ℕ) → Below w.counter.numbers around → IsNew around w.counter.numbers
+section_new w around below = one_new w.counter.numbers w.counter.numbers around (omega (arith)) below
+
+section_below : (w : Walk) (around : List ℕ) → Below w.counter.numbers around → Below (counted w.counter).numbers (w.counter.numbers ∷ around)
+section_below w around below = (omega (arith), below_more w.counter.numbers (counted w.counter).numbers around (one_on w.counter) below)
+
 module _ (trees : Bool → List NextOperand → Tree) (k : Known) where
   abbrev tree_joining : Joining
   tree_joining = by_trees trees
@@ -114,6 +127,9 @@ module _ (trees : Bool → List NextOperand → Tree) (k : Known) where
   below_behind : (ds : Declarations) (w : Walk) (around : List ℕ) → Below w.counter.numbers around → Below (behind ds w).counter.numbers (bound_in ds w ++ around)
   below_behind ds w around below = below_more (inside ds w).counter.numbers (behind ds w).counter.numbers (bound_in ds w ++ around) (declarations_on ds (inside ds w).counter) (below_inside ds w around below)
 
+  block_new : (ds : Declarations) (w : Walk) (around : List ℕ) → Below w.counter.numbers around → AreNew around (bound_in ds w)
+  block_new ds w around below = all_new w.counter.numbers (inside ds w).counter.numbers (bound_in ds w) around (block_range ds w) below
+
   -- ---- expressions and all that stands in them
 
   mutual
@@ -144,20 +160,15 @@ module _ (trees : Bool → List NextOperand → Tree) (k : Known) where
         let next = moved (behind_expression e w.counter) w in
         (expression_anew e w around below, expression_anew f next around (below_more w.counter.numbers next.counter.numbers around (expression_on e w.counter) below))
     operand_anew (comprehension a e qs) w around below = qualifiers_anew qs (resolved_expression tree_joining k e) (behind_expression e) (expression_anew e) w around below
-    operand_anew (left_section a e o) w around below = section_anew e w around below
-    operand_anew (right_section a o e) w around below = section_anew e w around below
+    operand_anew (left_section a e o) w around below = (section_new w around below, expression_anew e (moved (counted w.counter) w) (w.counter.numbers ∷ around) (section_below w around below))
+    operand_anew (right_section a o e) w around below = (section_new w around below, expression_anew e (moved (counted w.counter) w) (w.counter.numbers ∷ around) (section_below w around below))
     operand_anew (applied f as') w around below =
         let next = moved (behind_operand f w.counter) w in
         applied_anew as' (skips_degree f as' k w.names) (place_in k.src (first_of_operand f)) (head_before f (resolved_operand tree_joining k f w) as' k w.names) next around
         (below_more w.counter.numbers next.counter.numbers around (operand_on f w.counter) below)
         (head_anew around f (resolved_operand tree_joining k f w) as' k w.names (operand_anew f w around below))
-    operand_anew (lambda a ps e) w around below =
-        let next = entered (all_variables ps) w in
-        let numbers = patterns_numbers (resolved_patterns ps k next.names) in (
-          all_new w.counter.numbers next.counter.numbers numbers around (entered_range k ps w) below,
-          expression_anew e next (numbers ++ around) (below_range w.counter.numbers next.counter.numbers numbers around (entered_range k ps w) (names_on (all_variables ps) w.counter) below),
-        )
-    operand_anew (let_in a ds e) w around below = (block_anew ds w around below, expression_anew e (behind ds w) (bound_in ds w ++ around) (below_behind ds w around below))
+    operand_anew (lambda a ps e) w around below = (entered_new k ps w around below, expression_anew e (entered (all_variables ps) w) (entered_numbers k ps w ++ around) (entered_below k ps w around below))
+    operand_anew (let_in a ds e) w around below = ((block_new ds w around below, members_anew ds None (inside ds w) (bound_in ds w ++ around) (below_inside ds w around below)), expression_anew e (behind ds w) (bound_in ds w ++ around) (below_behind ds w around below))
     operand_anew (if_else a e f g) w around below =
         let second = moved (behind_expression e w.counter) w in
         let third = moved (behind_expression f second.counter) w in
@@ -166,12 +177,6 @@ module _ (trees : Bool → List NextOperand → Tree) (k : Known) where
     operand_anew (case_of a e bs) w around below =
         let next = moved (behind_expression e w.counter) w in
         (expression_anew e w around below, alternatives_anew bs next around (below_more w.counter.numbers next.counter.numbers around (expression_on e w.counter) below))
-
-    -- the parameter of a section
-    section_anew : (e : Expression) (w : Walk) (around : List ℕ) → Below w.counter.numbers around → IsNew around w.counter.numbers × BindsAnew (w.counter.numbers ∷ around) (resolved_expression tree_joining k e (moved (counted w.counter) w))
-    section_anew e w around below =
-        let next = moved (counted w.counter) w in
-        (one_new w.counter.numbers w.counter.numbers around (omega (arith)) below, expression_anew e next (w.counter.numbers ∷ around) (omega (arith), below_more w.counter.numbers next.counter.numbers around (one_on w.counter) below))
 
     applied_anew : (as' : Operands) (skip : Bool) (p : Place) (e : resolved.Expression) (w : Walk) (around : List ℕ) → Below w.counter.numbers around → BindsAnew around e → BindsAnew around (applied_to tree_joining k as' skip p e w)
     applied_anew no_operand skip p e w around below h = h
@@ -204,7 +209,7 @@ module _ (trees : Bool → List NextOperand → Tree) (k : Known) where
         let next = moved (behind_expression e w.counter) w in
         (expression_anew e w around below, qualifiers_anew qs head counts anew next around (below_more w.counter.numbers next.counter.numbers around (expression_on e w.counter) below))
     qualifiers_anew (qualifier (let_qualifier a ds) qs) head counts anew w around below =
-        (block_anew ds w around below, qualifiers_anew qs head counts anew (behind ds w) (bound_in ds w ++ around) (below_behind ds w around below))
+        ((block_new ds w around below, members_anew ds None (inside ds w) (bound_in ds w ++ around) (below_inside ds w around below)), qualifiers_anew qs head counts anew (behind ds w) (bound_in ds w ++ around) (below_behind ds w around below))
 
     alternatives_anew : (bs : Alternatives) (w : Walk) (around : List ℕ) → Below w.counter.numbers around → EquationsBindAnew around (resolved_alternatives tree_joining k bs w)
     alternatives_anew no_alternative w around below = tt
@@ -223,8 +228,8 @@ module _ (trees : Bool → List NextOperand → Tree) (k : Known) where
         )
 
     right_side_anew : (r : RightSide) (w : Walk) (around : List ℕ) → Below w.counter.numbers around → RightSideBindsAnew around (resolved_right_side tree_joining k r w)
-    right_side_anew (plain e ds) w around below = (block_anew ds w around below, expression_anew e (behind ds w) (bound_in ds w ++ around) (below_behind ds w around below))
-    right_side_anew (guarded a gs ds) w around below = (block_anew ds w around below, guards_anew gs (behind ds w) (bound_in ds w ++ around) (below_behind ds w around below))
+    right_side_anew (plain e ds) w around below = ((block_new ds w around below, members_anew ds None (inside ds w) (bound_in ds w ++ around) (below_inside ds w around below)), expression_anew e (behind ds w) (bound_in ds w ++ around) (below_behind ds w around below))
+    right_side_anew (guarded a gs ds) w around below = ((block_new ds w around below, members_anew ds None (inside ds w) (bound_in ds w ++ around) (below_inside ds w around below)), guards_anew gs (behind ds w) (bound_in ds w ++ around) (below_behind ds w around below))
 
     guards_anew : (gs : Guards) (w : Walk) (around : List ℕ) → Below w.counter.numbers around → GuardsBindAnew around (resolved_guards tree_joining k gs w)
     guards_anew no_guard w around below = tt
@@ -233,13 +238,6 @@ module _ (trees : Bool → List NextOperand → Tree) (k : Known) where
         let third = moved (behind_expression f second.counter) w in
         let at_second = below_more w.counter.numbers second.counter.numbers around (expression_on e w.counter) below in
         (expression_anew e w around below, (expression_anew f second around at_second, guards_anew gs third around (below_more second.counter.numbers third.counter.numbers around (expression_on f second.counter) at_second)))
-
-    -- the bindings of a block, around which its numbers are bound too
-    block_anew : (ds : Declarations) (w : Walk) (around : List ℕ) → Below w.counter.numbers around → AreNew around (bound_in ds w) × MembersBindAnew (bound_in ds w ++ around) (resolved_members tree_joining k ds None (inside ds w))
-    block_anew ds w around below = (
-      all_new w.counter.numbers (inside ds w).counter.numbers (bound_in ds w) around (block_range ds w) below,
-      members_anew ds None (inside ds w) (bound_in ds w ++ around) (below_inside ds w around below),
-    )
 
     members_anew : (ds : Declarations) (b : Option (List ℕ)) (w : Walk) (around : List ℕ) → Below w.counter.numbers around → MembersBindAnew around (resolved_members tree_joining k ds b w)
     members_anew no_declaration b w around below = tt
@@ -250,7 +248,7 @@ module _ (trees : Bool → List NextOperand → Tree) (k : Known) where
         let at_next = below_more w.counter.numbers next.counter.numbers around (declaration_on (equation at x ps r) w.counter) below in
         let new = opened x.text ps in
         if_either (MembersBindAnew around) (goes_on b x.text ps) _ _ (members_anew ds b next around at_next)
-        (equation_anew ps r w (further_equations tree_joining k ds new next) around below (further_anew ds new next around at_next), members_anew ds new next around at_next)
+        ((entered_new k ps w around below, (right_side_anew r (entered (all_variables ps) w) (entered_numbers k ps w ++ around) (entered_below k ps w around below), further_anew ds new next around at_next)), members_anew ds new next around at_next)
     members_anew (declaration (binding p r) ds) b w around below =
         let next = moved (behind_declaration (binding p r) w.counter) w in
         (right_side_anew r w around below, members_anew ds None next around (below_more w.counter.numbers next.counter.numbers around (declaration_on (binding p r) w.counter) below))
@@ -262,17 +260,12 @@ module _ (trees : Bool → List NextOperand → Tree) (k : Known) where
     further_anew (declaration (equation at x ps r) ds) b w around below =
         let next = moved (behind_declaration (equation at x ps r) w.counter) w in
         let at_next = below_more w.counter.numbers next.counter.numbers around (declaration_on (equation at x ps r) w.counter) below in
-        if_either (EquationsBindAnew around) (goes_on b x.text ps) _ _ (equation_anew ps r w (further_equations tree_joining k ds b next) around below (further_anew ds b next around at_next)) tt
+        if_either (EquationsBindAnew around) (goes_on b x.text ps) _ _ ((entered_new k ps w around below, (right_side_anew r (entered (all_variables ps) w) (entered_numbers k ps w ++ around) (entered_below k ps w around below), further_anew ds b next around at_next))) tt
     further_anew (declaration (binding p r) ds) b w around below = tt
 
-    -- an equation before others
-    equation_anew : (ps : Patterns) (r : RightSide) (w : Walk) (es : resolved.Equations) (around : List ℕ) → Below w.counter.numbers around → EquationsBindAnew around es → AreNew around (patterns_numbers (resolved_patterns ps k (entered (all_variables ps) w).names)) × (RightSideBindsAnew (patterns_numbers (resolved_patterns ps k (entered (all_variables ps) w).names) ++ around) (resolved_right_side tree_joining k r (entered (all_variables ps) w)) × EquationsBindAnew around es)
-    equation_anew ps r w es around below h =
-        let next = entered (all_variables ps) w in
-        let numbers = patterns_numbers (resolved_patterns ps k next.names) in (
-          all_new w.counter.numbers next.counter.numbers numbers around (entered_range k ps w) below,
-          (right_side_anew r next (numbers ++ around) (below_range w.counter.numbers next.counter.numbers numbers around (entered_range k ps w) (names_on (all_variables ps) w.counter) below), h),
-        )
+  -- an equation before others
+  equation_anew : (ps : Patterns) (r : RightSide) (w : Walk) (es : resolved.Equations) (around : List ℕ) → Below w.counter.numbers around → EquationsBindAnew around es → AreNew around (entered_numbers k ps w) × (RightSideBindsAnew (entered_numbers k ps w ++ around) (resolved_right_side tree_joining k r (entered (all_variables ps) w)) × EquationsBindAnew around es)
+  equation_anew ps r w es around below h = (entered_new k ps w around below, (right_side_anew r (entered (all_variables ps) w) (entered_numbers k ps w ++ around) (entered_below k ps w around below), h))
 
   -- ---- the declarations of a text, around which no number is bound
 

@@ -5,18 +5,16 @@ use Rattle.std.proofs.lemmas.List.{map-append}
 use Rattle.hdc_resolved.specs.Syntax as resolved
 use Rattle.hdc_resolved.specs.declared.name.Name.{Name}
 use Rattle.hdc_resolved.specs.declared.name.Name.TheVariants as what
-use Rattle.hdc_tree.specs.declared.expression.Rhs.{Rhs}
-use Rattle.hdc_tree.specs.declared.head.Head.{Head}
 use Rattle.hdc_tree.specs.declared.program.Top.{Top}
 use Rattle.hdc_tree.specs.declared.program.Top.TheVariants as top
-use Rattle.hdc_written.specs.Mirror.{head_name, head_patterns, rhs_of}
+use Rattle.hdc_written.specs.Mirror.{head_name, head_patterns}
 use Rattle.hdc_written.specs.Scopes.{standing_for}
 use Rattle.hdc_resolving.specs.declared.known.Known.{Known}
 use Rattle.hdc_resolving.specs.declared.walk.Walk.{Walk}
 use Rattle.hdc_resolving.specs.Grouped.{Joining}
 use Rattle.hdc_resolving.specs.Literals.{place_in}
 use Rattle.hdc_resolving.specs.Numbering.{moved}
-use Rattle.hdc_resolving.specs.Standing.{Names, Numbered, built_in, standing, goes_on, opened, named_unless, before_unless, behind_top, top_named, tops_named, prelude_named, program_named}
+use Rattle.hdc_resolving.specs.Standing.{Names, Numbered, built_in, goes_on, opened, named_unless, before_unless, behind_top, top_named, tops_named, prelude_named, program_named}
 use Rattle.hdc_bindings.specs.Tops.{behind_declared, equation_in, further_tops, top_bindings, all_bindings, prelude_known, program_known, prelude_walk, program_walk}
 use Rattle.hdc_numbers.specs.Numbers.{binding_name, binding_names}
 use Rattle.hdc_numbers.proofs.Places.{get_more, get_next, found}
@@ -108,11 +106,11 @@ have_no_top (b ∷ bs) = if is_top b.what then false else have_no_top bs
 
 none_top : (names : Names) → have_no_top names ≡ true → (x : List ℕ) (n : ℕ) → standing_for x names ≡ Some (what.Top n) → ⊥
 none_top [] h x n is = absurd (cc)
-none_top (b ∷ bs) h x n is = by (is_top b.what) refl h
+none_top (b ∷ bs) h x n is = by (is_top b.what) refl h (λ g. none_top bs g x n)
   where
-    by : (v : Bool) → is_top b.what ≡ v → (if v then false else have_no_top bs) ≡ true → ⊥
-    by true e g = absurd (cc)
-    by false e g = found x b.name b.what (what.Top n) bs (λ same top. absurd (let t = ap is_top top in cc)) (λ f. none_top bs g x n f) is
+    by : (v : Bool) → is_top b.what ≡ v → (if v then false else have_no_top bs) ≡ true → (have_no_top bs ≡ true → standing_for x bs ≡ Some (what.Top n) → ⊥) → ⊥
+    by true e g behind = absurd (cc)
+    by false e g behind = found x b.name b.what (what.Top n) bs (λ same top. absurd (let t = ap is_top top in cc)) (behind g) is
 
 first_numbered : AreNumbered (record { scope = built_in; next = 0 }) []
 first_numbered = record { next = refl; top = λ x n is. absurd (none_top built_in refl x n is) }

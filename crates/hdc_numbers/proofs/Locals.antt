@@ -1,5 +1,5 @@
 -- Local numbers in scope, and how many are taken.
-use Rattle.std.proofs.Common.{◌≡◌, ℕ, suc, ◌<◌, ◌≤◌, Bool, true, false, List, [], ◌∷◌, Option, None, Some, refl, sym, ap, ◌∙◌, arith, if◌then◌else◌}
+use Rattle.std.proofs.Common.{◌≡◌, ℕ, ◌≤◌, Bool, true, false, List, [], ◌∷◌, Option, None, Some, refl, sym, ap, ◌∙◌, arith, if◌then◌else◌}
 use Rattle.std.proofs.Math.Nat.{le_trans}
 use Rattle.hdc_tree.specs.declared.name.Name as written_name
 use Rattle.hdc_tree.specs.declared.program.Top.{Top}
@@ -34,11 +34,11 @@ have_no_local (b ∷ bs) = if is_local b.what then false else have_no_local bs
 
 none_local : (names : Names) → have_no_local names ≡ true → (x : List ℕ) (n : ℕ) → standing_for x names ≡ Some (what.Local n) → ⊥
 none_local [] h x n is = absurd (cc)
-none_local (b ∷ bs) h x n is = by (is_local b.what) refl h
+none_local (b ∷ bs) h x n is = by (is_local b.what) refl h (λ g. none_local bs g x n)
   where
-    by : (v : Bool) → is_local b.what ≡ v → (if v then false else have_no_local bs) ≡ true → ⊥
-    by true e g = absurd (cc)
-    by false e g = found x b.name b.what (what.Local n) bs (λ same local. absurd (let t = ap is_local local in cc)) (λ f. none_local bs g x n f) is
+    by : (v : Bool) → is_local b.what ≡ v → (if v then false else have_no_local bs) ≡ true → (have_no_local bs ≡ true → standing_for x bs ≡ Some (what.Local n) → ⊥) → ⊥
+    by true e g behind = absurd (cc)
+    by false e g behind = found x b.name b.what (what.Local n) bs (λ same local. absurd (let t = ap is_local local in cc)) (behind g) is
 
 unless_local : (go : Bool) (y : List ℕ) (s : Numbered Name) → have_no_local s.scope ≡ true → have_no_local (named_unless go y s).scope ≡ true
 unless_local true y s none = none
@@ -132,7 +132,7 @@ mutual
   operand_on (right_section a o e) c = le_trans (one_on c) (expression_on e (counted c))
   operand_on (applied f as') c = le_trans (operand_on f c) (operands_on as' (behind_operand f c))
   operand_on (lambda a ps e) c = le_trans (names_on (all_variables ps) c) (expression_on e (numbered (all_variables ps) c))
-  operand_on (let_in a ds e) c = le_trans (block_on ds c) (expression_on e (behind_declarations ds (numbered (all_bound ds) c)))
+  operand_on (let_in a ds e) c = le_trans (le_trans (names_on (all_bound ds) c) (declarations_on ds (numbered (all_bound ds) c))) (expression_on e (behind_declarations ds (numbered (all_bound ds) c)))
   operand_on (if_else a e f g) c = le_trans (expression_on e c) (le_trans (expression_on f (behind_expression e c)) (expression_on g (behind_expression f (behind_expression e c))))
   operand_on (case_of a e bs) c = le_trans (expression_on e c) (alternatives_on bs (behind_expression e c))
 
@@ -149,7 +149,7 @@ mutual
   qualifiers_on (qualifier (generator p e) qs) head on c =
       le_trans (expression_on e c) (le_trans (names_on (variables p) (behind_expression e c)) (qualifiers_on qs head on (numbered (variables p) (behind_expression e c))))
   qualifiers_on (qualifier (condition e) qs) head on c = le_trans (expression_on e c) (qualifiers_on qs head on (behind_expression e c))
-  qualifiers_on (qualifier (let_qualifier a ds) qs) head on c = le_trans (block_on ds c) (qualifiers_on qs head on (behind_declarations ds (numbered (all_bound ds) c)))
+  qualifiers_on (qualifier (let_qualifier a ds) qs) head on c = le_trans (le_trans (names_on (all_bound ds) c) (declarations_on ds (numbered (all_bound ds) c))) (qualifiers_on qs head on (behind_declarations ds (numbered (all_bound ds) c)))
 
   pub alternative_on : (b : Alternative) (c : Counter) → c.numbers ≤ (behind_alternative b c).numbers
   alternative_on blank c = omega (arith)
@@ -160,16 +160,12 @@ mutual
   alternatives_on (next_alternative b bs) c = le_trans (alternative_on b c) (alternatives_on bs (behind_alternative b c))
 
   pub right_side_on : (r : RightSide) (c : Counter) → c.numbers ≤ (behind_right_side r c).numbers
-  right_side_on (plain e ds) c = le_trans (block_on ds c) (expression_on e (behind_declarations ds (numbered (all_bound ds) c)))
-  right_side_on (guarded a gs ds) c = le_trans (block_on ds c) (guards_on gs (behind_declarations ds (numbered (all_bound ds) c)))
+  right_side_on (plain e ds) c = le_trans (le_trans (names_on (all_bound ds) c) (declarations_on ds (numbered (all_bound ds) c))) (expression_on e (behind_declarations ds (numbered (all_bound ds) c)))
+  right_side_on (guarded a gs ds) c = le_trans (le_trans (names_on (all_bound ds) c) (declarations_on ds (numbered (all_bound ds) c))) (guards_on gs (behind_declarations ds (numbered (all_bound ds) c)))
 
   guards_on : (gs : Guards) (c : Counter) → c.numbers ≤ (behind_guards gs c).numbers
   guards_on no_guard c = omega (arith)
   guards_on (guard e f gs) c = le_trans (expression_on e c) (le_trans (expression_on f (behind_expression e c)) (guards_on gs (behind_expression f (behind_expression e c))))
-
-  -- the names of a block, and what it declares
-  block_on : (ds : Declarations) (c : Counter) → c.numbers ≤ (behind_declarations ds (numbered (all_bound ds) c)).numbers
-  block_on ds c = le_trans (names_on (all_bound ds) c) (declarations_on ds (numbered (all_bound ds) c))
 
   pub declaration_on : (d : Declaration) (c : Counter) → c.numbers ≤ (behind_declaration d c).numbers
   declaration_on empty c = omega (arith)

@@ -1,5 +1,5 @@
 -- Numbers that are new, by the counter; and which numbers patterns bind.
-use Rattle.std.proofs.Common.{◌≡◌, ℕ, zero, suc, ◌<◌, ◌≤◌, Bool, true, false, List, [], ◌∷◌, ◌++◌, Option, None, Some, refl, arith, if◌then◌else◌}
+use Rattle.std.proofs.Common.{◌≡◌, ℕ, zero, suc, ◌<◌, ◌≤◌, Bool, true, false, List, [], ◌∷◌, ◌++◌, Some, refl, arith, if◌then◌else◌}
 use Rattle.std.specs.Prelude.{slice_index_or}
 use Rattle.std.specs.List.{AllByRecursion}
 use Rattle.std.specs.Str.{bytes_eq}
@@ -41,9 +41,9 @@ item_or P [] n d h g = g
 item_or P (x ∷ xs) zero d h g = h.0
 item_or P (x ∷ xs) (suc n) d h g = item_or P xs n d h.1 g
 
-pub if_either : {A : Type 0} (P : A → Type 0) (go : Bool) (yes no : A) → P yes → P no → P (if go then yes else no)
-if_either P true yes no h g = h
-if_either P false yes no h g = g
+pub if_either : {A : Type 0} (P : A → Type 0) (go : Bool) (a b : A) → P a → P b → P (if go then a else b)
+if_either P true a b h g = h
+if_either P false a b h g = g
 
 -- ---- numbers below one, and in a range
 

@@ -1,5 +1,5 @@
 -- Names of types are numbered in the order of the text.
-use Rattle.std.proofs.Common.{◌≡◌, ℕ, suc, List, [], ◌∷◌, ◌++◌, Some, length, map, refl, sym, ap, subst, ◌∙◌, append_assoc, append-nil, arith, length-append}
+use Rattle.std.proofs.Common.{◌≡◌, ℕ, List, [], ◌∷◌, ◌++◌, Some, length, map, refl, sym, ap, subst, ◌∙◌, append_assoc, append-nil, arith, length-append}
 use Rattle.std.specs.Prelude.{codes}
 use Rattle.std.specs.List.{slice_get}
 use Rattle.std.proofs.lemmas.List.{map-append}
@@ -7,12 +7,12 @@ use Rattle.hdc_resolved.specs.Syntax.{TypeTree}
 use Rattle.hdc_tree.specs.declared.program.Top.{Top}
 use Rattle.hdc_tree.specs.declared.program.Top.TheVariants as top
 use Rattle.hdc_type_names.specs.Synonyms.{top_synonyms, each_synonym, all_synonyms}
-use Rattle.hdc_type_names.specs.TypeNames.{TypeNames, built_in, with_top, with_tops, prelude_types, program_types}
+use Rattle.hdc_type_names.specs.TypeNames.{TypeNames, named, built_in, with_top, with_tops, prelude_types, program_types}
 use Rattle.hdc_type_names.specs.declared.naming.Naming.{Naming}
 use Rattle.hdc_type_names.specs.declared.type_name.TypeName.TheVariants as kind
 use Rattle.hdc_value.specs.declared.ty.TypeNode.{TypeNode}
 use Rattle.hdc_written.specs.Scopes.{standing_for}
-use Rattle.hdc_datas.specs.Datas.{top_datas, each_data, all_datas}
+use Rattle.hdc_datas.specs.Datas.{top_datas, each_data}
 use Rattle.hdc_datas.specs.Expanded.{expanded}
 use Rattle.hdc_numbers.specs.Numbers.{synonym_name, data_name, synonym_names, data_names}
 use Rattle.hdc_numbers.proofs.Places.{get_more, get_next, found}
@@ -121,17 +121,23 @@ all_more n (t ∷ ts) ss ds are =
     (all_more (with_top n t) ts (ss ++ declared_synonym t) (ds ++ declared_data t) (one_more n t ss ds are)))
 
 -- what is built in
+abbrev after_int : TypeNames
+after_int = named (codes "Char") kind.Char ∷ (named (codes "Bool") (kind.Data 0) ∷ [])
+
+abbrev after_char : TypeNames
+after_char = named (codes "Bool") (kind.Data 0) ∷ []
+
 first_names : AreNumbered built_in [] (codes "Bool" ∷ [])
 first_names = record {
   synonyms = refl;
   datas = refl;
   synonym = λ x k is.
-      found x (codes "Int") kind.Int (kind.Synonym k) _ (λ e same. absurd (cc))
-      (λ f. found x (codes "Char") kind.Char (kind.Synonym k) _ (λ e same. absurd (cc))
+      found x (codes "Int") kind.Int (kind.Synonym k) after_int (λ e same. absurd (cc))
+      (λ f. found x (codes "Char") kind.Char (kind.Synonym k) after_char (λ e same. absurd (cc))
       (λ g. found x (codes "Bool") (kind.Data 0) (kind.Synonym k) [] (λ e same. absurd (cc)) (λ h. absurd (cc)) g) f) is;
   data_type = λ x k is.
-      found x (codes "Int") kind.Int (kind.Data k) _ (λ e same. absurd (cc))
-      (λ f. found x (codes "Char") kind.Char (kind.Data k) _ (λ e same. absurd (cc))
+      found x (codes "Int") kind.Int (kind.Data k) after_int (λ e same. absurd (cc))
+      (λ f. found x (codes "Char") kind.Char (kind.Data k) after_char (λ e same. absurd (cc))
       (λ g. found x (codes "Bool") (kind.Data 0) (kind.Data k) [] (λ e same. let number : 0 ≡ k = cc in subst (λ z. slice_get (codes "Bool" ∷ []) k ≡ Some z) (sym e) (get_next [] [] (codes "Bool") k (sym number))) (λ h. absurd (cc)) g) f) is;
 }
 

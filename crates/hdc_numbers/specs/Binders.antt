@@ -1,5 +1,5 @@
 -- Resolved trees in which no part binds a number that is bound around it.
-use Rattle.std.specs.Prelude.{◌≡◌, ◌≢◌, ℕ, List, [], ◌∷◌, ◌++◌}
+use Rattle.std.specs.Prelude.{◌≢◌, ℕ, List, [], ◌∷◌, ◌++◌}
 use Rattle.std.specs.List.{AllByRecursion}
 use Rattle.hdc_resolved.specs.Syntax.{Pattern, anything, variable, named_as, literal_pattern, built, row_pattern, Patterns, no_pattern, pattern, Expression, literal, name, application, infix_application, negation, section, lambda, if_else, case_of, let_in, row, range, comprehension, Expressions, no_expression, expression, Qualifiers, head_of, condition, generator, bindings, Equations, no_equation, equation, RightSide, plain, guarded, Guards, no_guard, guard, Block, block, Members, no_member, named, matched, Binding}
 
