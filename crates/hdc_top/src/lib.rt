@@ -8,13 +8,13 @@
 //! and gives each other answer but want of memory its cause.
 #![tactic(auto)]
 
+mod blocks;
 mod compiler;
 mod generator;
 mod job;
 mod laws;
 mod machine;
 mod names;
-mod orders;
 mod plain;
 mod prelude;
 mod reader;

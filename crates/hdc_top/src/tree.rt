@@ -4,7 +4,7 @@ ghost use Rattle.std.specs.Prelude.{IfOk};
 ghost use Rattle.hdc_written.specs.Mirror.{tops_of};
 ghost use Rattle.hdc_top.specs.ResolvedTree.{IsResolved};
 
-use crate::orders::block_orders;
+use crate::blocks::block_orders;
 use hdc_bindings::resolve_bindings;
 use hdc_datas::resolve_datas;
 use hdc_groups::group_bindings;
