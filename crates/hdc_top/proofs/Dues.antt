@@ -15,7 +15,6 @@ use Rattle.hdc_lex.specs.declared.lexer.LexStop.TheVariants as lex
 use Rattle.hdc_lex.specs.Lexing.{Lexes}
 use Rattle.hdc_lex.proofs.OneAnswer.{same_answer}
 use Rattle.hdc_layout.specs.LaidOut.{laid_out}
-use Rattle.hdc_tree.specs.declared.program.Top.{Top}
 use Rattle.hdc_tree.specs.declared.program.Tree as program
 use Rattle.hdc_value.specs.declared.outcome.Outcome.{Outcome}
 use Rattle.hdc_value.specs.declared.outcome.Outcome.TheVariants as outcome

@@ -4,7 +4,7 @@ use Rattle.hdc_base.specs.declared.place.Place.{Place}
 use Rattle.hdc_value.specs.declared.arithmetic.Op.{Op}
 use Rattle.hdc_code.specs.declared.instr.Instr.{Instr}
 use Rattle.hdc_code.specs.declared.instr.Instr.TheVariants as instr
-use Rattle.hdc_top.specs.Arithmetic.{Tree, literal, binary, operation}
+use Rattle.hdc_top.specs.Arithmetic.{Tree, binary, operation}
 use Rattle.hdc_top.specs.Code.{CarriesMeaning, Carries, exp_code, Emits}
 use Rattle.hdc_top.proofs.Carrying.{program_code, program_carries}
 

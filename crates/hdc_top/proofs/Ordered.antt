@@ -1,5 +1,5 @@
 -- The orders of the blocks of two texts.
-use Rattle.std.proofs.Common.{◌≡◌, ℕ, List, [], ◌∷◌, ◌++◌, ap, sym, ◌∙◌, append_assoc, subst}
+use Rattle.std.proofs.Common.{◌≡◌, ℕ, List, [], ◌∷◌, ◌++◌, ap, sym, ◌∙◌, subst}
 use Rattle.hdc_written.specs.Written.{Declarations}
 use Rattle.hdc_needs.specs.Orders.{AreOrders}
 use Rattle.hdc_top.specs.ResolvedTree.{IsAdded}

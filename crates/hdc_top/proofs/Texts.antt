@@ -1,8 +1,7 @@
 -- What a text means, from what the steps of compiling it answer.
-use Rattle.std.proofs.Common.{◌≡◌, ◌≢◌, ℕ, List, map, refl, sym, ap, subst, ◌∙◌, Option, Some, None, Result, Ok, Err}
+use Rattle.std.proofs.Common.{◌≡◌, ◌≢◌, ℕ, List, map, refl, sym, subst, Option, Some, None, Result, Ok, Err}
 use Rattle.hdc_base.specs.declared.place.At.{At}
 use Rattle.hdc_base.specs.declared.token.Token.{Token}
-use Rattle.hdc_base.specs.declared.refusal.Kind.TheVariants as kind
 use Rattle.hdc_base.specs.declared.refusal.Stop.{Stop}
 use Rattle.hdc_base.specs.declared.refusal.Stop.TheVariants as stop
 use Rattle.hdc_lex.specs.declared.lexeme.Form.TheVariants as form
@@ -29,7 +28,7 @@ use Rattle.hdc_top.specs.Prelude.{IsPrelude}
 use Rattle.hdc_top.specs.Arithmetic.{Tree}
 use Rattle.hdc_top.specs.Main.{main_tree}
 use Rattle.hdc_top.specs.Code.{Carries}
-use Rattle.hdc_top.specs.Stopped.{not_yet, refused_at, layout_stop, lexer_stop, parser_stop, names_stop, end_place, HasLayout, IsAsked, ResolvesTo, StopsWhole, names_at, not_built, StopsLaid, syntax_at, nesting_at, whole_at, IsStopped, no_tokens, lexemes, layout, laid_tokens}
+use Rattle.hdc_top.specs.Stopped.{not_yet, layout_stop, lexer_stop, parser_stop, names_stop, end_place, HasLayout, IsAsked, ResolvesTo, names_at, not_built, StopsLaid, syntax_at, nesting_at, whole_at, IsStopped, no_tokens, lexemes, layout, laid_tokens}
 use Rattle.hdc_top.proofs.Resolving.{resolved_are}
 use Rattle.hdc_top.specs.Results.{LaysText, CompilesWhole, CompilesLaid, Compiles}
 

@@ -1,4 +1,4 @@
 use Rattle.hdc_top.proofs.resolve.resolve.Goals as goal
 
-pub returns-in_ok-resolve-in-Ok : goal.returns-in_ok-resolve-in-Ok
-returns-in_ok-resolve-in-Ok c = (c.in-Ok.ensures, c.in_ok-resolve-in-Ok.ensures)
+pub returns-in_ok-resolved_tree-in-Ok : goal.returns-in_ok-resolved_tree-in-Ok
+returns-in_ok-resolved_tree-in-Ok c = (c.in-Ok.ensures, c.in_ok-resolved_tree-in-Ok.ensures)

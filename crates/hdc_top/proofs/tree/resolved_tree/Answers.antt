@@ -1,8 +1,7 @@
-use Rattle.std.proofs.Common.{◌≡◌, map, ap, sym, ◌∙◌, subst}
+use Rattle.std.proofs.Common.{map, ap, sym, ◌∙◌, subst}
 use Rattle.hdc_graph.specs.Groups.{AreGroups}
 use Rattle.hdc_groups.specs.Needs.{binding_needs}
 use Rattle.hdc_resolved.specs.Mirror.{binding_of, synonym_of}
-use Rattle.hdc_type_names.specs.Synonyms.{all_synonyms}
 use Rattle.hdc_datas.specs.Datas.{datas_with}
 use Rattle.hdc_datas.specs.Needs.{NoSynonymReachesItself}
 use Rattle.hdc_written.specs.Mirror.{tops_of}
